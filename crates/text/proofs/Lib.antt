@@ -1,0 +1,9 @@
+pub mod Bytes
+pub mod Table
+pub mod Grammar
+pub mod Cuts
+pub mod Lines
+pub mod Filling
+pub mod Valid
+pub mod Kept
+pub mod Dashing

@@ -1,0 +1,6 @@
+// Texts: spans of bytes, UTF-8, identifiers.
+pub mod dashes;
+pub mod identifier;
+pub mod line;
+pub mod span;
+pub mod utf8;

@@ -34,7 +34,10 @@ fn cut(heap: Global, tally: &mut Tally, bytes: &[u8]) -> Result<String, AllocErr
 fn cut_hex(heap: Global, tally: &mut Tally, digits: &[u8]) -> Result<String, AllocError> {
     match hex::unhex(heap, digits) {
         Ok(bytes) => cut(heap, tally, bytes.as_slice()),
-        Err(HexFault::NotHex) => String::from_str(heap, "malformed: the bytes are pairs of hexadecimal digits"),
+        Err(HexFault::NotHex) => String::from_str(
+            heap,
+            "malformed: the bytes are pairs of hexadecimal digits",
+        ),
         Err(HexFault::NoMemory) => Err(AllocError),
     }
 }

@@ -97,5 +97,5 @@ module _ (hex : List ℕ) (at : ℕ) (bytes : List ℕ) (inside : at < length he
   one-byte x y n p q =
       let k : at + 1 + 1 ≡ at + 2 = omega arith in
       let e : take (at + 2) hex ≡ take at hex ++ getD hex at 0 ∷ getD hex (at + 1) 0 ∷ [] =
-        ap (λ j. take j hex) (sym k) ∙ take-more hex (at + 1) 0 (omega arith) ∙ ap (λ l. l ++ getD hex (at + 1) 0 ∷ []) (take-more hex at 0 inside) ∙ append-assoc (take at hex) (getD hex at 0 ∷ []) (getD hex (at + 1) 0 ∷ []) in
+      ap (λ j. take j hex) (sym k) ∙ take-more hex (at + 1) 0 (omega arith) ∙ ap (λ l. l ++ getD hex (at + 1) 0 ∷ []) (take-more hex at 0 inside) ∙ append-assoc (take at hex) (getD hex at 0 ∷ []) (getD hex (at + 1) 0 ∷ []) in
       subst (λ d. Spells d (bytes ++ (x * 16 + y) ∷ [])) (sym e) (spells-push (getD hex at 0) (getD hex (at + 1) 0) sofar p q)

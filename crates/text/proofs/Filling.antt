@@ -165,8 +165,7 @@ Sofar bytes words i start count =
 module _ (bytes : List ℕ) (words : List Span) (i start count : ℕ) (sofar : Sofar bytes words i start count) (inside : i < length bytes) where
   pub word-step : getD bytes i 0 ≡ 0 → (count ≡ 128 → ⊥) → Sofar bytes (set words count (record { start = start; len = i - start })) (i + 1) (i + 1) (count + 1)
   word-step z n =
-      let row = row-more bytes words count (record { start = start; len = i - start }) (let a = sofar .0 in let b = sofar .1 in omega arith) in
-      (
+      let row = row-more bytes words count (record { start = start; len = i - start }) (let a = sofar .0 in let b = sofar .1 in omega arith) in (
         length-set words count (record { start = start; len = i - start }) ∙ sofar .0,
         (let b = sofar .1 in omega arith),
         omega arith,

@@ -19,18 +19,18 @@ chars-is : (n : ℕ) (s : List ℕ) → length s ≤ n → Utf8 s → chars n s 
 chars-is zero s h u = eq-eqb (length s) 0 (omega arith)
 chars-is (suc n) s h u =
     either-way (eqb (length s) 0) (λ e. rw e) (λ e.
-      let some = eqb-false (length s) 0 e in
-      let f = utf8-front u (omega arith) in
-      rw (e, ne-eqb (front s) 0 (let k = f .0 in omega arith))
-      (chars-is n (drop (front s) s) (let k = f .0 in omega (arith, length-drop (front s) s)) (f .1)))
+    let some = eqb-false (length s) 0 e in
+    let f = utf8-front u (omega arith) in
+    rw (e, ne-eqb (front s) 0 (let k = f .0 in omega arith))
+    (chars-is n (drop (front s) s) (let k = f .0 in omega (arith, length-drop (front s) s)) (f .1)))
 
 chars-utf8 : (n : ℕ) (s : List ℕ) → chars n s ≡ true → Utf8 s
 chars-utf8 zero s e = subst Utf8 (sym (nil-from-length s (eqb-true (length s) 0 e))) Utf8.none
 chars-utf8 (suc n) s e =
     either-way (eqb (length s) 0) (λ h. subst Utf8 (sym (nil-from-length s (eqb-true (length s) 0 h))) Utf8.none) (λ h.
-      either-way (eqb (front s) 0) (λ k. absurd (false≢true (rw (h, k) at e))) (λ k.
-        let some = eqb-false (front s) 0 k in
-        front-utf8 s (omega arith) (chars-utf8 n (drop (front s) s) (rw (h, k) at e))))
+    either-way (eqb (front s) 0) (λ k. absurd (false≢true (rw (h, k) at e))) (λ k.
+    let some = eqb-false (front s) 0 k in
+    front-utf8 s (omega arith) (chars-utf8 n (drop (front s) s) (rw (h, k) at e))))
 
 pub valid-from : (s : List ℕ) → Utf8 s → valid s ≡ true
 valid-from s u = chars-is (length s) s (omega arith) u

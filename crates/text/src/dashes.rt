@@ -1,8 +1,9 @@
 // Words taken apart by their leading dashes, and words compared with fixed ones.
 ghost use mathlib.Core.Path.{_≡_};
-ghost use mathlib.Core.List.{[], _∷_};
-ghost use Rattle.std.specs.Orderings.{Decides};
+ghost use lib.Chars.{codes};
+ghost use Rattle.std.specs.shelf.Text.{sameBytes};
 ghost use Rattle.text.specs.Dashes.{TakenApart};
+use crate::span::texts::same;
 
 // A word as two dashes, or one where it does not start with two, and the rest.
 pub enum Dashes<'a> {
@@ -23,21 +24,21 @@ pub fn take_apart(word: &[u8]) -> Dashes<'_>
 
 // The end mark, behind which no word of the order is a switch.
 pub fn is_end_mark(word: &[u8]) -> bool
-    ensures { λ r. ⌜ Decides r (now (word .entry) ≡ 45 ∷ 45 ∷ []) ⌝ }
+    ensures { λ r. ⌜ r ≡ sameBytes (now (word .entry)) (codes "--") ⌝ }
 {
-    word == b"--"
+    same(word, b"--")
 }
 
 // The separator between the names of a path.
 pub fn is_separator(bytes: &[u8]) -> bool
-    ensures { λ r. ⌜ Decides r (now (bytes .entry) ≡ 58 ∷ 58 ∷ []) ⌝ }
+    ensures { λ r. ⌜ r ≡ sameBytes (now (bytes .entry)) (codes "::") ⌝ }
 {
-    bytes == b"::"
+    same(bytes, b"::")
 }
 
 // The text that a flag takes.
 pub fn is_true(text: &[u8]) -> bool
-    ensures { λ r. ⌜ Decides r (now (text .entry) ≡ 116 ∷ 114 ∷ 117 ∷ 101 ∷ []) ⌝ }
+    ensures { λ r. ⌜ r ≡ sameBytes (now (text .entry)) (codes "true") ⌝ }
 {
-    text == b"true"
+    same(text, b"true")
 }

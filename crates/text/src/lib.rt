@@ -1,6 +1,7 @@
 // Texts: spans of bytes, UTF-8, identifiers.
 pub mod dashes;
 pub mod identifier;
+mod lengths;
 pub mod line;
 pub mod span;
 pub mod utf8;

@@ -11,6 +11,7 @@ use crate::span::Span;
 pub mod cut;
 
 pub const LINE_BYTES: usize = 1024;
+
 pub const LINE_WORDS: usize = 128;
 
 // A line within the limits: its bytes, and its words as a table of places in them.

@@ -25,11 +25,10 @@ pub loop-at-again : need.loop-at-again
 loop-at-again c =
     let v = c .loop-at .inv .0 in
     let t = c .loop-at-test .taken in
-    let n = c .if-at-hex .left in
-    (
+    let n = c .if-at-hex .left in (
       omega arith,
       subst (Spells (take (c .loop-at .at + 2) (c .args .hex .now))) (sym (c .in-rest-push .ensures tt .items))
-      (one-byte (c .args .hex .now) (c .loop-at .at) (vec-items (c .loop-at .bytes)) t (c .loop-at .inv .1) (c .in-Some .high) (c .in-Some-value .low) n (sym (c .in-Some .ensures tt)) (sym (c .in-Some-value .ensures tt))),
+          (one-byte (c .args .hex .now) (c .loop-at .at) (vec-items (c .loop-at .bytes)) t (c .loop-at .inv .1) (c .in-Some .high) (c .in-Some-value .low) n (sym (c .in-Some .ensures tt)) (sym (c .in-Some-value .ensures tt))),
     )
 
 pub returns : need.returns

@@ -16,8 +16,7 @@ returns-then-not-is-utf8 c =
     let words = c .args .words .now in
     let i = c .loop-i .i in
     let word = getD words i (record { start = 0; len = 0 }) in
-    let cut = sym (take-append-drop i words) ∙ ap (λ ws. take i words ++ ws) (drop-more words i (record { start = 0; len = 0 }) (c .loop-i-test .taken)) in
-    (
+    let cut = sym (take-append-drop i words) ∙ ap (λ ws. take i words ++ ws) (drop-more words i (record { start = 0; len = 0 }) (c .loop-i-test .taken)) in (
       textsAt bytes (take i words),
       textAt bytes word,
       textsAt bytes (drop (i + 1) words),

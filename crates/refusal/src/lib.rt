@@ -4,9 +4,18 @@ ghost use Rattle.std.specs.declared.option.Option.the-variants.{Some};
 ghost use Rattle.refusal.specs.Told.{toldOf, toldText};
 use std::fmt;
 
-// Why a call was turned down. Places, words, modules and recipes are counted from 0.
+// Why a call was turned down. Places, words, modules, recipes, parameters and letters are counted from 0.
 #[derive(Clone, Copy)]
 pub enum Refusal {
+    // the tree image
+    ImageTooLong,
+    FieldCutOff { at: usize },
+    OutOfRange { at: usize },
+    ForbiddenText { at: usize },
+    NameNotAbove { at: usize },
+    ModuleNotNamedOnce { module: usize },
+    BytesBehind { at: usize },
+    SharedName { recipe: usize },
     // the limits of a line
     LineTooLong,
     LineNotClosed,
@@ -24,16 +33,15 @@ pub struct Told {
     pub second: usize,
 }
 
-// A refusal of the line's limits: its number, and its word.
-fn of_line(number: u8, word: usize) -> Told
-    ensures { λ r. ⌜ r ≡ record { number = number; layer = 1; word = word; first = 0; second = 0 } ⌝ }
+fn make(number: u8, layer: u8, word: usize, first: usize, second: usize) -> Told
+    ensures { λ r. ⌜ r ≡ record { number = number; layer = layer; word = word; first = first; second = second } ⌝ }
 {
     Told {
         number,
-        layer: 1,
+        layer,
         word,
-        first: 0,
-        second: 0,
+        first,
+        second,
     }
 }
 
@@ -43,10 +51,18 @@ impl Refusal {
         ensures { λ r. ⌜ r ≡ toldOf self ⌝ }
     {
         match self {
-            Refusal::LineTooLong => of_line(10, 0),
-            Refusal::LineNotClosed => of_line(11, 0),
-            Refusal::TooManyWords => of_line(12, 0),
-            Refusal::WordNotUtf8 { word } => of_line(13, word),
+            Refusal::ImageTooLong => make(1, 0, 0, 32768, 0),
+            Refusal::FieldCutOff { at } => make(2, 0, 0, at, 0),
+            Refusal::OutOfRange { at } => make(3, 0, 0, at, 0),
+            Refusal::ForbiddenText { at } => make(4, 0, 0, at, 0),
+            Refusal::NameNotAbove { at } => make(5, 0, 0, at, 0),
+            Refusal::ModuleNotNamedOnce { module } => make(6, 0, 0, module, 0),
+            Refusal::BytesBehind { at } => make(7, 0, 0, at, 0),
+            Refusal::SharedName { recipe } => make(8, 0, 0, recipe, 0),
+            Refusal::LineTooLong => make(10, 1, 0, 0, 0),
+            Refusal::LineNotClosed => make(11, 1, 0, 0, 0),
+            Refusal::TooManyWords => make(12, 1, 0, 0, 0),
+            Refusal::WordNotUtf8 { word } => make(13, 1, word, 0, 0),
         }
     }
 }

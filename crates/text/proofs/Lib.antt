@@ -7,3 +7,5 @@ pub mod Filling
 pub mod Valid
 pub mod Kept
 pub mod Dashing
+pub mod Splits
+pub mod Joins

@@ -5,3 +5,4 @@ pub mod Lead
 pub mod Line
 pub mod Lines
 pub mod Dashes
+pub mod Pieces

@@ -3,5 +3,6 @@ pub mod dashes;
 pub mod identifier;
 mod lengths;
 pub mod line;
+pub mod pieces;
 pub mod span;
 pub mod utf8;

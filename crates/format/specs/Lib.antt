@@ -1,0 +1,5 @@
+pub mod Format
+pub mod Fields
+pub mod Sure
+pub mod Reads
+pub mod Encoded

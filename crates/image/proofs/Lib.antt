@@ -1,0 +1,5 @@
+pub mod Stands
+pub mod Says
+pub mod Keeps
+pub mod Bridge
+pub mod Facts

@@ -1,0 +1,5 @@
+pub mod Tables
+pub mod Image
+pub mod Checks
+pub mod Loads
+pub mod Trees

@@ -1,0 +1,5 @@
+pub mod Meaning
+pub mod Listed
+pub mod Metres
+pub mod Rounding
+pub mod Gauge

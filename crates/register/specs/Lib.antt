@@ -1,0 +1,6 @@
+pub mod Kinds
+pub mod Meaning
+pub mod Parameters
+pub mod Bare
+pub mod Mount
+pub mod BareLaws

@@ -1,6 +1,7 @@
 #!/usr/bin/env python3
 """Tree images by rules written anew here: a writer, a checker, and the cases that the gate replays.
 
+    tools/tree_image.py barrier            writes the image of a barrier with patterns to standard output
     tools/tree_image.py example            prints the example tree's image, in hexadecimal digits
     tools/tree_image.py cases IN OUT       writes images (a line each) and the answers that the check must give
     tools/tree_image.py check HEX          prints the answer to one image
@@ -197,6 +198,19 @@ def check(data):
         return "refused {} 0 0 {} 0".format(*e.args)
 
 
+def known(data):
+    """How many modules the register over the tables then has."""
+    answer = check(data).split()
+    return answer[2] if answer[0] == "image" else "0"
+
+
+BARRIER = image(
+    [module(), module()],
+    [name(0, 0, "east", 1), name(0, 1, "e", 1), name(0, 2, "lower", 0), name(0, 4, "drain"), name(0, 6, "west"), name(1, 2, "raise", 1), name(1, 3, "up", 1)],
+    [recipe(parameter(), parameter(default="10", long="by", letter="b", pattern=0), parameter(flag=True, letter="q")), recipe(parameter(kind=1, min=1, max=3))],
+    [pattern(None, (0, 345)), pattern(["slow", "fast"])])
+
+
 # --- cases -------------------------------------------------------------------------------------
 
 def full():
@@ -319,12 +333,14 @@ def cases():
 def main():
     if sys.argv[1] == "example":
         print(EXAMPLE.hex())
+    elif sys.argv[1] == "barrier":
+        sys.stdout.buffer.write(BARRIER)
     elif sys.argv[1] == "check":
         print(check(bytes.fromhex(sys.argv[2])))
     else:
         images = list(dict.fromkeys(cases()))
         open(sys.argv[2], "w").write("".join(i.hex() + "\n" for i in images))
-        open(sys.argv[3], "w").write("".join(check(i) + "\n" for i in images))
+        open(sys.argv[3], "w").write("".join(check(i) + " | " + known(i) + "\n" for i in images))
 
 
 if __name__ == "__main__":

@@ -7,7 +7,7 @@ UTF-8 is judged by Python's own strict decoder, so the two sides share no code.
 """
 import sys
 
-script, answers = [], []
+script, answers = [], ["image ok 2 7 2 2"]
 tally = {"lines": 0, "words": 0, "refusals": 0}
 
 
@@ -99,6 +99,41 @@ for sequence in [
     "f5808080", "ff", "fe", "f8888080", "c2", "e0a0", "e1", "f09080", "f1", "e18041", "f1808041",
 ]:
     raw(bytes.fromhex(sequence) + b"\0")
+
+note("where names lead: module, kind, name")
+said("find 0 0 east", "found 1")
+said("find 0 1 e", "found 1")
+said("find 0 2 lower", "found 0")
+said("find 0 4 drain", "found 3")
+said("find 0 6 west", "found 4")
+said("find 1 2 raise", "found 1")
+said("find 1 3 up", "found 1")
+said("find 0 2 raise", "none")
+said("find 0 0 eas", "none")
+said("find 0 0 eastern", "none")
+said("find 2 2 lower", "none")
+said("find 65535 0 east", "none")
+said("find 65536 0 east", "malformed: find takes a module, a kind from 0 to 6 and a name")
+said("find 0 7 east", "malformed: find takes a module, a kind from 0 to 6 and a name")
+said("find 0 0", "malformed: find takes a module, a kind from 0 to 6 and a name")
+
+note("what recipes take")
+said("recipe 0", "recipe 3 | singular | singular default=3130 long=6279 letter=98 pattern=0 | singular flag letter=113")
+said("recipe 1", "recipe 1 | plus min=1 max=3")
+said("recipe 2", "recipe 0")
+said("recipe", "malformed: recipe takes a number")
+
+note("patterns: a gauge up to 345 centimetres, and two texts")
+for text in ["0", "3.45", "3.454", "0.5", "3.445", "2", "0.004"]:
+    said("judge 0 " + text, "yes")
+for text in ["3.455", "3.46", "4", "03", "00", "1.", ".5", "1.2345", "12345", "-1", "1,5", "", " 1", "slow"]:
+    said("judge 0 " + text, "no")
+for text, answer in [("slow", "yes"), ("fast", "yes"), ("faster", "no"), ("fas", "no"), ("", "no"), ("1", "no")]:
+    said("judge 1 " + text, answer)
+said("judge 2 slow", "no")
+said("judge 255 1", "no")
+said("judge 256 1", "malformed: judge takes a pattern from 0 to 255 and a text")
+said("judge 0", "malformed: judge takes a pattern from 0 to 255 and a text")
 
 note("lines that are no calls")
 said("lower 3", "unknown call: help lists the calls")

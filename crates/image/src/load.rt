@@ -10,6 +10,7 @@ use tree::front::front;
 use tree_register::table_register::TableRegister;
 
 // An image that was checked: the answer, and the register and the judges over the tables.
+#[derive(Clone, Copy)]
 pub struct Loaded<'a> {
     pub answer: Result<Sizes, Refusal>,
     pub register: TableRegister<'a>,

@@ -2,6 +2,7 @@ ghost use Rattle.judge.specs.Meaning.{eitherOf};
 use crate::Judge;
 
 // Accepts what either of two judges does.
+#[derive(Clone, Copy, Drop)]
 pub struct Either<A, B> {
     pub first: A,
     pub second: B,

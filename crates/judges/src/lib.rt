@@ -1,6 +1,7 @@
 // The judges over the pattern rows of a tree.
 ghost use Rattle.judges.specs.Patterns.{Judges-of-tree};
 
+pub mod chosen;
 pub mod gauges;
 pub mod texts;
 

@@ -1,3 +1,4 @@
 pub mod Hexing
 pub mod Spaces
 pub mod Listing
+pub mod Numbers

@@ -8,7 +8,7 @@ ghost use Rattle.std.specs.Of.Vec.{vec-items};
 ghost use Rattle.std.specs.Options.{mapped};
 ghost use Rattle.std.specs.Vec.{made};
 ghost use Rattle.std.specs.declared.option.Option.the-variants.{Some};
-ghost use Rattle.script.specs.Call.{skipped, firstSpace, Parted, verbOf, typedAs, lineOf};
+ghost use Rattle.script.specs.Call.{skipped, firstSpace, Parted, verbOf, typedAs, lineOf, digitValue, withDigit, Small, numberOf};
 use std::alloc::AllocError;
 use std::alloc::Global;
 use text::span::texts::same;
@@ -18,6 +18,9 @@ use text::span::texts::same;
 pub enum Verb {
     Words,
     WordsHex,
+    Find,
+    Recipe,
+    Judge,
     Help,
 }
 
@@ -74,6 +77,12 @@ pub fn named(name: &[u8]) -> Option<Verb>
         Some(Verb::Words)
     } else if same(name, b"wordsx") {
         Some(Verb::WordsHex)
+    } else if same(name, b"find") {
+        Some(Verb::Find)
+    } else if same(name, b"recipe") {
+        Some(Verb::Recipe)
+    } else if same(name, b"judge") {
+        Some(Verb::Judge)
     } else if same(name, b"help") {
         Some(Verb::Help)
     } else {
@@ -108,4 +117,39 @@ pub fn typed_line(heap: Global, rest: Option<&[u8]>) -> Result<Vec<u8>, AllocErr
         push_typed(&mut line, text)?;
     }
     Ok(line)
+}
+
+// A decimal digit's value.
+fn digit_value(digit: u8) -> Option<u32>
+    ensures { λ r. ⌜ r ≡ digitValue digit ⌝ }
+{
+    match digit {
+        b'0'..=b'9' => Some((digit - b'0') as u32),
+        _ => None,
+    }
+}
+
+// A number with one more digit behind it, up to 65,535.
+fn with_digit(so_far: u32, digit: u8) -> Option<u32>
+    requires { ⌜ «so_far» ≤ 65535 ⌝ }
+    ensures value { λ r. ⌜ r ≡ withDigit «so_far» digit ⌝ }
+    ensures small { λ r. ⌜ Small r ⌝ }
+{
+    let value = digit_value(digit)?;
+    let number = so_far * 10 + value;
+    if number <= 65535 { Some(number) } else { None }
+}
+
+// A decimal number up to 65,535, in digits alone.
+pub fn number(text: &[u8]) -> Option<u16>
+    ensures { λ r. ⌜ r ≡ numberOf (now (text .entry)) ⌝ }
+{
+    if text.is_empty() {
+        return None;
+    }
+    let mut so_far = 0;
+    for digit in text {
+        so_far = with_digit(so_far, *digit)?;
+    }
+    Some(so_far as u16)
 }

@@ -27,7 +27,7 @@ follow-bare : (t : Text) → allFollow t ≡ true → hasColon t ≡ false
 follow-bare [] e = refl
 follow-bare (b ∷ t) e = let p = and-parts (follows b) (allFollow t) e in rw (follows-apart b (p .0)) (follow-bare t (p .1))
 
-identifier-bare : (p : Text) → identifier p ≡ true → hasColon p ≡ false
+pub identifier-bare : (p : Text) → identifier p ≡ true → hasColon p ≡ false
 identifier-bare [] e = refl
 identifier-bare (b ∷ t) e = let p = and-parts (starts b) (allFollow t) e in rw (starts-apart b (p .0)) (follow-bare t (p .1))
 

@@ -1,0 +1,10 @@
+pub mod Sequence
+pub mod Model
+pub mod Names
+pub mod Walks
+pub mod Theorem
+pub mod LookUps
+pub mod Words
+pub mod Pieces
+pub mod Firsts
+pub mod Follows

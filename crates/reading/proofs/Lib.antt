@@ -1,0 +1,10 @@
+pub mod Letters
+pub mod Runs
+pub mod Words
+pub mod Counts
+pub mod Orders
+pub mod Lines
+pub mod Bounds
+pub mod Examples
+pub mod Unroll
+pub mod Shifts

@@ -1,0 +1,10 @@
+pub mod Letters
+pub mod Signature
+pub mod Switches
+pub mod Reading
+pub mod Faults
+pub mod Line
+pub mod Model
+pub mod Stands
+pub mod Examples
+pub mod Shifts

@@ -1,0 +1,9 @@
+pub mod Places
+pub mod Arguments
+pub mod Recipes
+pub mod Options
+pub mod Alike
+pub mod Groups
+pub mod Spellings
+pub mod Ends
+pub mod Modules

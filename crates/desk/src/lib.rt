@@ -1,5 +1,5 @@
 // What the program does: its options, the image, and the calls of a script, one answer a line.
-use example::EXAMPLE;
+use examples::example;
 use image::load::Loaded;
 use image::load::load;
 use image::tables::Tables;
@@ -32,7 +32,6 @@ use std::io::BufReader;
 use text::line::Line;
 use tree_register::table_register::answers::TableAnswers;
 
-mod example;
 mod options;
 mod tree;
 
@@ -187,6 +186,6 @@ pub fn run_all(rt: &LibcRuntime) -> Result<(), AnyError> {
             let bytes = fs::read(rt, path.as_str())?;
             start(rt, &options, bytes.as_slice(), &mut tables)
         }
-        None => start(rt, &options, &EXAMPLE, &mut tables),
+        None => start(rt, &options, example(), &mut tables),
     }
 }

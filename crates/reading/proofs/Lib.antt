@@ -5,6 +5,5 @@ pub mod Counts
 pub mod Orders
 pub mod Lines
 pub mod Bounds
-pub mod Examples
 pub mod Unroll
 pub mod Shifts

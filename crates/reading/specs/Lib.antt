@@ -6,5 +6,4 @@ pub mod Faults
 pub mod Line
 pub mod Model
 pub mod Stands
-pub mod Examples
 pub mod Shifts

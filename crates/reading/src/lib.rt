@@ -1,5 +1,4 @@
 // The rules of a lawful reading, and the theorems about them.
-ghost use Rattle.reading.specs.Examples.{ExamplesStand};
 ghost use Rattle.reading.specs.Letters.{LettersStand};
 ghost use Rattle.reading.specs.Shifts.{ReadingsShift};
 ghost use Rattle.reading.specs.Stands.{ReadingStands, ReadingsFit, ModelStands};
@@ -30,13 +29,6 @@ pub fn readings_fit() -> u8
 // The executable model answers it.
 pub fn model_stands() -> u8
     ensures { λ _. ⌜ ModelStands ⌝ }
-{
-    0
-}
-
-// What some lines come to.
-pub fn examples_stand() -> u8
-    ensures { λ _. ⌜ ExamplesStand ⌝ }
 {
     0
 }

@@ -1,0 +1,2 @@
+pub mod ExampleTree
+pub mod Examples

@@ -1,0 +1,11 @@
+mod Rows
+mod FirstLetter
+mod Applies
+mod LetterRuns
+mod WordParts
+mod Places
+mod WordSteps
+mod Scanning
+mod Counting
+mod OrderSteps
+mod LineSteps

@@ -1,0 +1,9 @@
+pub mod Meaning
+pub mod Answers
+pub mod Bare
+pub mod Steps
+pub mod Scans
+pub mod Counts
+pub mod Orders
+pub mod Told
+pub mod Rest

@@ -1,4 +1,6 @@
 // The program over the bare register, mounted at a module that it has not; for its stored run.
+#![tactic(auto)]
+
 use desk::run_all;
 
 fn main(rt: HostRuntime) -> anyhow::Result<()> {

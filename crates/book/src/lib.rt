@@ -1,4 +1,6 @@
 // The tables in which the reading of a line is kept.
+#![tactic(auto)]
+
 pub mod fill;
 pub mod order_row;
 mod put;

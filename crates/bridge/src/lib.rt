@@ -1,4 +1,6 @@
 // The reader for other languages, and two functions for measuring.
+#![tactic(auto)]
+
 use book::tables::Book;
 use console::console::Console;
 use image::load::load;

@@ -1,4 +1,6 @@
 // What the program does: its options, the image, and the calls of a script, one answer a line.
+#![tactic(auto)]
+
 use book::read::read_line;
 use book::tables::Book;
 use examples::example;

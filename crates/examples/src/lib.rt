@@ -1,4 +1,6 @@
 // The example tree: its image, and what some lines over it come to.
+#![tactic(auto)]
+
 ghost use Rattle.std.specs.Prelude.{◌≡◌};
 ghost use Rattle.records.specs.Records.{tree as tree_format};
 ghost use Rattle.examples.specs.ExampleTree.{example_tree};

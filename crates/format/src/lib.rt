@@ -1,4 +1,6 @@
 // Reading an image by the description of its format, field by field.
+#![tactic(auto)]
+
 ghost use Rattle.format.specs.Sure.{FieldsSure};
 
 pub mod cursor;

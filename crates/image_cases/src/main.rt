@@ -1,4 +1,6 @@
 // Checks each image of a list, one in hexadecimal digits a line, over the same tables: the answer, and how many modules the register then has.
+#![tactic(auto)]
+
 use anyhow::anyhow;
 use image::load::{Loaded, load};
 use image::tables::Tables;

@@ -1,3 +1,5 @@
 // Reading a line over a tree image.
+#![tactic(auto)]
+
 pub mod choice;
 pub mod read;

@@ -1,4 +1,6 @@
 // Judges: whether a text belongs to a pattern.
+#![tactic(auto)]
+
 ghost use Rattle.std.specs.Prelude.{◌≡◌};
 ghost use Rattle.judge.specs.Meaning.{JudgeMeaning};
 

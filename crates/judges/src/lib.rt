@@ -1,4 +1,6 @@
 // The judges over the pattern rows of a tree.
+#![tactic(auto)]
+
 ghost use Rattle.judges.specs.Patterns.{JudgesOfTree};
 
 pub mod chosen;

@@ -1,7 +1,7 @@
 -- Words of UTF-8: their characters, names and pieces.
 use Rattle.std.proofs.Common.{◌≡◌, ℕ, zero, suc, ◌<◌, ◌≤◌, true, false, ◌&&◌, eqb, List, [], ◌∷◌, ◌++◌, length, drop, sym, refl, ap, ◌∙◌, subst, arith, length-append}
 use Rattle.std.specs.List.{AllByRecursion as All}
-use Rattle.std.specs.shelf.Text.{chars_after}
+use Rattle.std.specs.Str.{chars_after}
 use Rattle.std.proofs.lemmas.Bool.{lt-ltb, le-ltb, le-leb, lt-leb, ne_eqb, eqb-true, and_parts}
 use Rattle.text.specs.Identifier.{Text, all_follow, identifier}
 use Rattle.text.specs.Utf8.{Char, Utf8}

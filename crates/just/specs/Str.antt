@@ -2,7 +2,7 @@
 use Rattle.std.specs.Prelude.{ℕ, Bool, true, false, cond, ◌&&◌, ◌||◌, List, [], ◌∷◌, ◌++◌, is_some, Some, None, Option, ◌==◌}
 use Rattle.std.specs.Option.{option_map}
 use Rattle.std.specs.Str.{bytes_eq}
-use Rattle.std.specs.shelf.Text.{bytes_after, lead_bits, chars_after}
+use Rattle.std.specs.Str.{continuation_len, lead_bits, chars_after}
 use Rattle.text.specs.Identifier.{Text}
 
 -- `is_empty`
@@ -13,7 +13,7 @@ is_empty (b ∷ t) = false
 -- `chars`: the code points of UTF-8 bytes
 abbrev pub chars : Text → List ℕ
 chars [] = []
-chars (b ∷ t) = chars_after (bytes_after b) (lead_bits b) t
+chars (b ∷ t) = chars_after (continuation_len b) (lead_bits b) t
 
 -- `strip_prefix`
 abbrev pub strip_prefix : Text → Text → Option Text

@@ -1,4 +1,6 @@
 // The parser of invocations of the command runner just, as functions on values beside its sources, and that it answers as the rules of reading do.
+#![tactic(auto)]
+
 ghost use Rattle.just.specs.Examples.{ExamplesStand};
 ghost use Rattle.just.specs.Stands.{JustStands};
 

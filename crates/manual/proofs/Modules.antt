@@ -52,7 +52,7 @@ pub modules_stand : ModulesStand
 modules_stand = record {
   laws = path_laws;
   pieces_take_last_default = λ names word text rest pieces at recipe c m p l d. record { path = record { components = pieces; spaced = false }; gives = Gives.one_word c m p; resolves = Resolves.at_default l d };
-  words_take_last_default = λ names word rest at recipe c l d. record { path = record { components = word ∷ rest; spaced = true }; gives = Gives.Each-word c; resolves = Resolves.at_default l d };
+  words_take_last_default = λ names word rest at recipe c l d. record { path = record { components = word ∷ rest; spaced = true }; gives = Gives.each_word c; resolves = Resolves.at_default l d };
   default_is_last = λ names words found p d. last_default names words p.path p.gives p.resolves d;
   no_words_take_root_default = λ names found p. root_default names p.path (gives_none p.gives) p.resolves;
   demanding_default_refused = refused;

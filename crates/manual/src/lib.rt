@@ -1,4 +1,6 @@
 // What the manual of the command runner just lays down on parameters, options and modules, each point a theorem from the lawful reading.
+#![tactic(auto)]
+
 ghost use Rattle.manual.specs.Arguments.{ArgumentsStand};
 ghost use Rattle.manual.specs.Ends.{EndsStand};
 ghost use Rattle.manual.specs.Groups.{GroupsStand};

@@ -17,7 +17,7 @@ module _ (bytes : List ℕ) where
 
   pub plain_first : (words : List Span) (d : Span) (word : Text) → 0 < length words → word ≡ text_at bytes (get_or words 0 d) → has_colon word ≡ false → Gives (texts_at bytes words) (of_words (texts_at bytes words))
   plain_first [] d word some is c = absurd (omega arith)
-  plain_first (w ∷ ws) d word some is c = Gives.Each-word (ap has_colon (sym is) ∙ c)
+  plain_first (w ∷ ws) d word some is c = Gives.each_word (ap has_colon (sym is) ∙ c)
 
   module _ (names : NameMeaning) (answer : Result Path Refusal) (d : Span) (word text : Text) (colon : has_colon word ≡ true) (told : TextAnswer names text answer) where
     -- the first word is the line's last

@@ -31,7 +31,7 @@ resolves_count names path (Resolves.at_default l d) = (length path.components, r
 
 gives_count : {words : List Text} {path : Modulepath} → Gives words path → (n : ℕ) → n ≤ length path.components → (0 < length path.components → 0 < n) → (words_of path n ≤ length words) × (0 < length words → 0 < words_of path n)
 gives_count Gives.no_words n h k = (h, k)
-gives_count (Gives.Each-word c) n h k = (h, k)
+gives_count (Gives.each_word c) n h k = (h, k)
 gives_count (Gives.one_word c m p) n h k = (omega arith, λ _. omega arith)
 
 pub lawful_takes : (names : NameMeaning) (words : List Text) (found : Path) → LawfulPath names words found → Takes (length words) found
@@ -51,17 +51,17 @@ default_count names path (Resolves.at_recipe h none r) e = absurd (false≢true 
 default_count names path (Resolves.at_default l d) e = refl
 
 spaced_count : {word : Text} {rest : List Text} {path : Modulepath} → Gives (word ∷ rest) path → has_colon word ≡ false → words_of path (length path.components) ≡ length (word ∷ rest)
-spaced_count (Gives.Each-word c) e = refl
+spaced_count (Gives.each_word c) e = refl
 spaced_count (Gives.one_word c m p) e = absurd (true≢false (sym c ∙ e))
 
 -- pieces and words
 
 one_path : {word text' : Text} {rest pieces : List Text} {path : Modulepath} → Gives (word ∷ rest) path → has_colon word ≡ true → Meant word rest text' → Pieces text' pieces → path ≡ of_pieces pieces
-one_path (Gives.Each-word c) e m' p' = absurd (true≢false (sym e ∙ c))
+one_path (Gives.each_word c) e m' p' = absurd (true≢false (sym e ∙ c))
 one_path (Gives.one_word c m p) e m' p' = ap of_pieces (sym (pieces_is p) ∙ ap split (sym (meant_is m) ∙ meant_is m') ∙ pieces_is p')
 
 each_path : {word : Text} {rest : List Text} {path : Modulepath} → Gives (word ∷ rest) path → has_colon word ≡ false → path ≡ of_words (word ∷ rest)
-each_path (Gives.Each-word c) e = refl
+each_path (Gives.each_word c) e = refl
 each_path (Gives.one_word c m p) e = absurd (true≢false (sym c ∙ e))
 
 first_bare : (piece : Text) (pieces : List Text) → identifiers (piece ∷ pieces) ≡ true → has_colon piece ≡ false
@@ -114,7 +114,7 @@ module _ (names : NameMeaning) (none : Empty names) where
   empty_word : (word : Text) (rest : List Text) → has_colon word ≡ false → PathFault names (word ∷ rest) (UnknownRecipe 0)
   empty_word word rest c =
       let reach : Reaches names (of_words (word ∷ rest)) [] names.root word rest = record { cut = refl; lead = Leads.here } in
-      PathFault.strays (Gives.Each-word c) (Strays.at_name reach (Stops.unknown_recipe (alone (word ∷ rest) rest) (none.nowhere word)))
+      PathFault.strays (Gives.each_word c) (Strays.at_name reach (Stops.unknown_recipe (alone (word ∷ rest) rest) (none.nowhere word)))
 
   empty_pieces : (word : Text) (rest : List Text) (text first second : Text) (more : List Text) → has_colon word ≡ true → Meant word rest text → Pieces text (first ∷ second ∷ more) → PathFault names (word ∷ rest) (UnknownSubmodule 0)
   empty_pieces word rest text first second more c m p =

@@ -34,7 +34,7 @@ module _ (names : NameMeaning) where
 
   gives_is : {words : List Text} {path : Modulepath} → Gives words path → path_of names words ≡ whole names path
   gives_is Gives.no_words = refl
-  gives_is (Gives.Each-word c) = rw c
+  gives_is (Gives.each_word c) = rw c
   gives_is (Gives.one_word {text} c m p) = word_is c m ∙ rw (pieces_formed p) (ap (λ ps. whole names (of_pieces ps)) (pieces_is p))
 
   no_pieces : (text : Text) → ((pieces : List Text) → Pieces text pieces → ⊥) → well_formed text ≡ false
@@ -61,7 +61,7 @@ module _ (names : NameMeaning) where
   answer_does (word ∷ rest) =
       either_way (has_colon word)
       (λ c. rw c (text_does (meant_of word rest) word rest c (meant_does word rest)))
-      (λ c. rw c (gives_answer names (Gives.Each-word c) (whole names (of_words (word ∷ rest))) (whole_does names (of_words (word ∷ rest)))))
+      (λ c. rw c (gives_answer names (Gives.each_word c) (whole names (of_words (word ∷ rest))) (whole_does names (of_words (word ∷ rest)))))
 
   -- words have no other answer than one that they have
   pub the_only : (words : List Text) (answer : Result Path Refusal) → PathAnswer names words answer → OnlyAnswer names words answer

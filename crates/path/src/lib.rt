@@ -1,4 +1,6 @@
 // The path of an order: from its first words to a recipe.
+#![tactic(auto)]
+
 ghost use Rattle.path.specs.Laws.{PathLaws};
 ghost use Rattle.path.specs.Path.{PathsStand};
 

@@ -220,7 +220,7 @@ lacks_word (Lacks.default e k) = refl
 
 behind_in : {ws : List Text} {path : Modulepath} → Gives ws path → (k : ℕ) → k ≤ length path.components → word_behind path k ≤ length ws
 behind_in Gives.no_words k h = h
-behind_in (Gives.Each-word e) k h = h
+behind_in (Gives.each_word e) k h = h
 behind_in (Gives.one_word e m p) k h = omega arith
 
 strays_in : {names : NameMeaning} {ws : List Text} {path : Modulepath} {f : Refusal} → Gives ws path → Strays names path f → WordIn (length ws) f

@@ -1,6 +1,6 @@
 -- The first letter of a text, and the letters behind it. Assumes nothing.
 use Rattle.std.proofs.Common.{◌≡◌, ℕ, zero, suc, ◌+◌, ◌-◌, ◌*◌, ◌<◌, ◌≤◌, List, [], ◌∷◌, length, get_or, take, drop, sym, refl, ap, ◌∙◌, arith}
-use Rattle.std.specs.shelf.Text.{bytes_after, lead_bits}
+use Rattle.std.specs.Str.{continuation_len, lead_bits}
 use Rattle.text.specs.Identifier.{Text}
 use Rattle.reading.specs.Letters.{letters_from, letters}
 use Rattle.reader.specs.Meaning.{with_tail, letter_code, letter_length}

@@ -1,6 +1,6 @@
 -- Steps of the loop over the letters of a switch word. Assumes nothing.
 use Rattle.std.proofs.Common.{◌≡◌, ℕ, zero, suc, ◌+◌, ◌<◌, ◌≤◌, min, Bool, true, false, cond, eqb, List, [], ◌∷◌, map, length, take, drop, Some, None, Ok, Err, Option, Result, sym, refl, ap, ◌∙◌, subst, add-one, arith, length-take}
-use Rattle.std.specs.shelf.Text.{bytes_after, lead_bits}
+use Rattle.std.specs.Str.{continuation_len, lead_bits}
 use Rattle.std.proofs.lemmas.List.{drop_all, drop-drop, length-drop}
 use Rattle.std.proofs.lemmas.Bool.{eqb-true, eqb-false}
 use Rattle.refusal.specs.declared.Refusal.{Refusal}
@@ -30,14 +30,14 @@ drop_long zero t = refl
 drop_long (suc n) [] = refl
 drop_long (suc n) (b ∷ t) = drop_long n t
 
-long_is : (b : ℕ) (t : Text) → letter_length (b ∷ t) ≡ suc (length (take (bytes_after b) t))
-long_is b t = let e = length-take (bytes_after b) t in omega (arith, e)
+long_is : (b : ℕ) (t : Text) → letter_length (b ∷ t) ≡ suc (length (take (continuation_len b) t))
+long_is b t = let e = length-take (continuation_len b) t in omega (arith, e)
 
 -- the first letter of a text
 pub first_letter : (t : Text) → 0 < length t → letters t ≡ letter_code (take (letter_length t) t) ∷ letters (drop (letter_length t) t)
 first_letter [] h = absurd (omega arith)
 first_letter (b ∷ t) h =
-    let n = bytes_after b in
+    let n = continuation_len b in
     from_letter n (lead_bits b) t
     ∙ ap (λ (x : Text). letter_code (b ∷ x) ∷ letters (drop n t)) (sym (take_long n t))
     ∙ ap (λ (x : Text). letter_code (b ∷ take (length (take n t)) t) ∷ letters x) (sym (drop_long n t))

@@ -1,6 +1,6 @@
 -- What the reader's rows and answers mean in the model of the reading. Assumes nothing.
 use Rattle.std.specs.Prelude.{◌≡◌, ℕ, suc, ◌+◌, ◌-◌, ◌*◌, min, Bool, true, false, cond, List, [], ◌∷◌, map, length, take, ◌==◌}
-use Rattle.std.specs.shelf.Text.{bytes_after, lead_bits}
+use Rattle.std.specs.Str.{continuation_len, lead_bits}
 use Rattle.text.specs.Identifier.{Text}
 use Rattle.text.specs.Spans.{text_at}
 use Rattle.reading.specs.Reading.{Value, true_text}
@@ -52,4 +52,4 @@ letter_code (b ∷ t) = with_tail (lead_bits b) t
 -- how many bytes the first letter has
 abbrev pub letter_length : Text → ℕ
 letter_length [] = 0
-letter_length (b ∷ t) = min (suc (bytes_after b)) (suc (length t))
+letter_length (b ∷ t) = min (suc (continuation_len b)) (suc (length t))

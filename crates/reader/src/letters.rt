@@ -1,11 +1,11 @@
 // Letters of a switch word, as code points.
 ghost use Rattle.std.specs.Prelude.{◌≡◌, ◌+◌, ◌*◌, ◌<◌, ◌≤◌, [], ◌∷◌, length};
-ghost use Rattle.std.specs.shelf.Text.{bytes_after, lead_bits};
+ghost use Rattle.std.specs.Str.{continuation_len, lead_bits};
 ghost use Rattle.reader.specs.Meaning.{letter_length, letter_code, with_tail};
 
 // How many bytes follow a lead byte.
 fn bytes_after(lead: u8) -> usize
-    ensures value { result ≡ bytes_after lead }
+    ensures value { result ≡ continuation_len lead }
     ensures few { result ≤ 3 }
 {
     if lead < 128 {

@@ -1,4 +1,6 @@
 // The reader: the words of a line as orders.
+#![tactic(auto)]
+
 pub mod awaited;
 pub mod called;
 pub mod counts;

@@ -1,6 +1,6 @@
 -- How many roles, orders and values a reading has. Assumes nothing.
 use Rattle.std.proofs.Common.{◌≡◌, ℕ, zero, suc, ◌+◌, ◌-◌, ◌*◌, ◌<◌, ◌≤◌, max, Bool, true, false, cond, eqb, List, [], ◌∷◌, ◌++◌, map, length, drop, Some, None, Option, sym, refl, ap, ◌∙◌, subst, arith, length-append}
-use Rattle.std.specs.shelf.Text.{bytes_after, lead_bits}
+use Rattle.std.specs.Str.{continuation_len, lead_bits}
 use Rattle.std.proofs.lemmas.List.{length-drop, length-map}
 use Rattle.std.proofs.lemmas.Bool.{eqb-true, ne_eqb}
 use Rattle.refusal.specs.declared.Refusal.{Refusal}
@@ -44,12 +44,12 @@ repeated_many (suc n) r = let h = repeated_many n r in omega arith
 letters_from_few : (n c : ℕ) (t : Text) → length (letters_from n c t) ≤ suc (length t)
 letters_from_few zero c [] = omega arith
 letters_from_few (suc n) c [] = omega arith
-letters_from_few zero c (b ∷ t) = let h = letters_from_few (bytes_after b) (lead_bits b) t in omega arith
+letters_from_few zero c (b ∷ t) = let h = letters_from_few (continuation_len b) (lead_bits b) t in omega arith
 letters_from_few (suc n) c (b ∷ t) = let h = letters_from_few n (c * 64 + (b - 128)) t in omega arith
 
 letters_few : (t : Text) → length (letters t) ≤ length t
 letters_few [] = omega arith
-letters_few (b ∷ t) = letters_from_few (bytes_after b) (lead_bits b) t
+letters_few (b ∷ t) = letters_from_few (continuation_len b) (lead_bits b) t
 
 tail_few : (t : Text) → length (tail t) ≤ length t
 tail_few [] = omega arith

@@ -1,18 +1,18 @@
 -- The letters of a text: its characters, as code points. Assumes nothing.
 use Rattle.std.specs.Prelude.{◌≡◌, ℕ, zero, suc, ◌+◌, ◌-◌, ◌*◌, List, [], ◌∷◌, ◌++◌}
-use Rattle.std.specs.shelf.Text.{bytes_after, lead_bits}
+use Rattle.std.specs.Str.{continuation_len, lead_bits}
 use Rattle.text.specs.Identifier.{Text}
 use Rattle.text.specs.Utf8.{Char}
 
 -- a letter whose bytes so far have the value c and of which n bytes are still to come, and the letters behind it
 abbrev pub letters_from : ℕ → ℕ → Text → List ℕ
 letters_from n c [] = c ∷ []
-letters_from zero c (b ∷ t) = c ∷ letters_from (bytes_after b) (lead_bits b) t
+letters_from zero c (b ∷ t) = c ∷ letters_from (continuation_len b) (lead_bits b) t
 letters_from (suc n) c (b ∷ t) = letters_from n (c * 64 + (b - 128)) t
 
 abbrev pub letters : Text → List ℕ
 letters [] = []
-letters (b ∷ t) = letters_from (bytes_after b) (lead_bits b) t
+letters (b ∷ t) = letters_from (continuation_len b) (lead_bits b) t
 
 -- the code point of the bytes of one character
 abbrev pub code : List ℕ → ℕ

@@ -1,4 +1,6 @@
 // The rules of a lawful reading, and the theorems about them.
+#![tactic(auto)]
+
 ghost use Rattle.reading.specs.Letters.{LettersStand};
 ghost use Rattle.reading.specs.Shifts.{ReadingsShift};
 ghost use Rattle.reading.specs.Stands.{ReadingStands, ReadingsFit, ModelStands};

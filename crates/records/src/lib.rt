@@ -1,4 +1,6 @@
 // The records of a tree image, read into rows.
+#![tactic(auto)]
+
 ghost use Rattle.format.specs.Encoded.{Encoded};
 ghost use Rattle.format.specs.Sure.{Sure};
 ghost use Rattle.records.specs.Records.{tree as tree_format};

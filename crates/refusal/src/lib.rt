@@ -1,4 +1,6 @@
 // Refusals: the closed list of what a call may turn down, each with the numbers that the screen shows.
+#![tactic(auto)]
+
 ghost use Rattle.std.specs.Prelude.{◌≡◌, Some};
 ghost use Rattle.refusal.specs.Told.{told_of, told_text};
 

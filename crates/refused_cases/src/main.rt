@@ -1,4 +1,6 @@
 // The program over an image that is refused; for its stored run.
+#![tactic(auto)]
+
 use desk::run_all;
 
 fn main(rt: HostRuntime) -> anyhow::Result<()> {

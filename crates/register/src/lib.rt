@@ -1,4 +1,6 @@
 // Registers: where names lead and what recipes take, by their meaning.
+#![tactic(auto)]
+
 pub mod bare;
 pub mod kind;
 pub mod mount;

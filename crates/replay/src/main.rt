@@ -1,4 +1,6 @@
 // Replays a list of calls: `image JUDGE HEX` checks an image, and `readx HEX` reads a line over it.
+#![tactic(auto)]
+
 use anyhow::anyhow;
 use book::tables::Book;
 use image::load::load;

@@ -1,4 +1,6 @@
 // The text of readings and refusals, for any writer.
+#![tactic(auto)]
+
 use book::order_row::OrderRow;
 use book::tables::Book;
 use reader::counts::source_text;

@@ -1,4 +1,6 @@
 // The script that the program reads, and the text of its answers.
+#![tactic(auto)]
+
 pub mod answer;
 pub mod call;
 pub mod hex;

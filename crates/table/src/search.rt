@@ -53,14 +53,14 @@ pub trait Table<'k> {
 
 // The place of the row with the key.
 pub fn place<'k, T: Table<'k> + 'k>(table: &T, key: <T::Row as Keyed<'k>>::Key) -> Option<usize>
-    ensures { Finds (T.Row.Keyed.keyed (T.Table.bytes table.now)) (T.Table.listed table.now) (Key-as-Parts.parts key) result }
+    ensures { Finds (T.Row.Keyed.keyed (T.Table.bytes table.now)) (T.Table.listed table.now) (T.Row.Key.parts key) result }
 {
     place_among(table.image(), table.rows(), key)
 }
 
 // The row with the key.
 pub fn find<'k, T: Table<'k> + 'k>(table: &T, key: <T::Row as Keyed<'k>>::Key) -> Option<&'k T::Row>
-    ensures { FindsRow (T.Row.Keyed.keyed (T.Table.bytes table.now)) (T.Table.listed table.now) (Key-as-Parts.parts key) (option_map (λ x. x.now) result) }
+    ensures { FindsRow (T.Row.Keyed.keyed (T.Table.bytes table.now)) (T.Table.listed table.now) (T.Row.Key.parts key) (option_map (λ x. x.now) result) }
 {
     row_among(table.image(), table.rows(), key)
 }

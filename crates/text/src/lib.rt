@@ -1,4 +1,6 @@
 // Texts: spans of bytes, UTF-8, identifiers.
+#![tactic(auto)]
+
 pub mod dashes;
 pub mod identifier;
 mod lengths;

@@ -1,4 +1,6 @@
 // The tree of modules, names, recipes, parameters and patterns, as rows over an image's bytes.
+#![tactic(auto)]
+
 pub mod front;
 pub mod keys;
 pub mod rows;

@@ -1,4 +1,6 @@
 // The register over a tree's rows.
+#![tactic(auto)]
+
 ghost use Rattle.tree_register.specs.Found.{FindsStand};
 
 pub mod table_register;

@@ -1,4 +1,6 @@
 // The checks that go over a whole tree, after all its records have been read.
+#![tactic(auto)]
+
 pub mod derive;
 pub mod filled;
 mod insertion;

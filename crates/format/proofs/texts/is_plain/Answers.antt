@@ -5,8 +5,8 @@ use Rattle.format.proofs.Rules.{plain_from}
 use Rattle.format.proofs.texts.is_plain.Goals as goal
 use Rattle.std.proofs.lemmas.Bool.Decides.{Decides-eqb}
 
-pub returns-then-is-utf8 : goal.returns-then-is-utf8
-returns-then-is-utf8 c =
+pub returns-then-is_utf8 : goal.returns-then-is_utf8
+returns-then-is_utf8 c =
     let t = c.args.text.now in
     let d : Decides c.contains.result (Has t 0) = contains_decides eqb Decides-eqb t 0 c.contains.result c.contains.ensures.cases in
-    plain_from t c.contains.result (c.is-utf8.ensures.0 c.if-is-utf8.true) d
+    plain_from t c.contains.result (c.is_utf8.ensures.0 c.if-is_utf8.true) d

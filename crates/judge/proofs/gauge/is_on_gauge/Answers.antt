@@ -7,9 +7,9 @@ use Rattle.judge.proofs.gauge.is_on_gauge.Goals as goal
 pub returns-in-Some : goal.returns-in-Some
 returns-in-Some c =
     let low = c.args.low in let high = c.args.high in let t = c.args.text.now in
-    let e : c.lies-within.result ≡ on_gauge low high t =
-    c.lies-within.ensures ∙ ap (λ n. leb low n && leb n high) (rounded_is _ _ c.centimetres.ensures) ∙ ap (from_to low high) c.in-Some.ensures in
-    record { value = e; means = Decides-at c.lies-within.result (on_gauge low high t) e (gauge_decides low high t) }
+    let e : c.lies_within.result ≡ on_gauge low high t =
+    c.lies_within.ensures ∙ ap (λ n. leb low n && leb n high) (rounded_is _ _ c.centimetres.ensures) ∙ ap (from_to low high) c.in-Some.ensures in
+    record { value = e; means = Decides-at c.lies_within.result (on_gauge low high t) e (gauge_decides low high t) }
 
 pub returns-in-None : goal.returns-in-None
 returns-in-None c =

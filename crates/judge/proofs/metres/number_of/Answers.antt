@@ -4,14 +4,14 @@ use Rattle.judge.specs.Metres.{decimal}
 use Rattle.judge.proofs.Digits.{small, small_so_far, digit_here, decimal_more}
 use Rattle.judge.proofs.metres.number_of.Goals as goal
 
-pub overflow-mul-number : goal.overflow-mul-number
-overflow-mul-number c = omega (arith, small_so_far c.args.digits.now c.loop-digit.digit-index c.requires.written c.requires.few c.loop-digit-test.true)
+pub overflow_mul-number : goal.overflow_mul-number
+overflow_mul-number c = omega (arith, small_so_far c.args.digits.now c.loop-digit.digit-index c.requires.written c.requires.few c.loop-digit-test.true)
 
-pub overflow-sub-number : goal.overflow-sub-number
-overflow-sub-number c = omega (arith, digit_here c.args.digits.now c.loop-digit.digit-index c.requires.written c.requires.few c.loop-digit-test.true)
+pub overflow_sub-number : goal.overflow_sub-number
+overflow_sub-number c = omega (arith, digit_here c.args.digits.now c.loop-digit.digit-index c.requires.written c.requires.few c.loop-digit-test.true)
 
-pub overflow-add-number : goal.overflow-add-number
-overflow-add-number c =
+pub overflow_add-number : goal.overflow_add-number
+overflow_add-number c =
     omega (
       arith,
       small_so_far c.args.digits.now c.loop-digit.digit-index c.requires.written c.requires.few c.loop-digit-test.true,

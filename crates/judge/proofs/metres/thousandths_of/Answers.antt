@@ -6,23 +6,23 @@ use Rattle.judge.proofs.metres.thousandths_of.Goals as goal
 pub returns-in-1 : goal.returns-in-1
 returns-in-1 c =
     record {
-      value = ap (λ n. n * 100) c.number-of-number.ensures.value ∙ ap (λ n. decimal c.args.fraction.now * 10 ^ (3 - n)) (sym c.in-1.is);
-      small = omega (arith, c.number-of-number.ensures.small);
+      value = ap (λ n. n * 100) c.number_of-number.ensures.value ∙ ap (λ n. decimal c.args.fraction.now * 10 ^ (3 - n)) (sym c.in-1.is);
+      small = omega (arith, c.number_of-number.ensures.small);
     }
 
 pub returns-in-2 : goal.returns-in-2
 returns-in-2 c =
     record {
-      value = ap (λ n. n * 10) c.number-of-number.ensures.value ∙ ap (λ n. decimal c.args.fraction.now * 10 ^ (3 - n)) (sym c.in-2.is);
-      small = omega (arith, c.number-of-number.ensures.small);
+      value = ap (λ n. n * 10) c.number_of-number.ensures.value ∙ ap (λ n. decimal c.args.fraction.now * 10 ^ (3 - n)) (sym c.in-2.is);
+      small = omega (arith, c.number_of-number.ensures.small);
     }
 
-pub returns-in-default : goal.returns-in-default
-returns-in-default c =
+pub returns-in_default : goal.returns-in_default
+returns-in_default c =
     let t = c.args.fraction.now in
     let f : Fraction t = fraction_does t c.requires in
     let n : 0 ≡ 3 - length t = omega arith in
     record {
-      value = c.number-of-number.ensures.value ∙ sym (mul-one (decimal t)) ∙ ap (λ k. decimal t * 10 ^ k) n;
-      small = omega (arith, c.number-of-number.ensures.small);
+      value = c.number_of-number.ensures.value ∙ sym (mul-one (decimal t)) ∙ ap (λ k. decimal t * 10 ^ k) n;
+      small = omega (arith, c.number_of-number.ensures.small);
     }

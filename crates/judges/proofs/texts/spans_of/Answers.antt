@@ -7,7 +7,7 @@ use Rattle.judges.proofs.texts.spans_of.Goals as goal
 
 pub returns-then-place-patterns : goal.returns-then-place-patterns
 returns-then-place-patterns c = λ image text.
-    ap (λ spans. listed (texts_at image spans) text) c.row-spans.ensures
+    ap (λ spans. listed (texts_at image spans) text) c.row_spans.ensures
     ∙ texts_at_row image c.args.patterns.now c.args.pattern text _ c.if-place-patterns.true
 
 pub returns-else-place-patterns : goal.returns-else-place-patterns

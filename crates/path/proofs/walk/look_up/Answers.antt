@@ -14,7 +14,7 @@ returns-in-Some g c =
 pub loop-kind-preserved : goal.loop-kind-preserved
 loop-kind-preserved g c =
     passed_at (g.R.Register.names c.args.register.now) c.args.«module» c.args.name.now c.loop-kind.kind-index _
-    c.loop-kind-test.true (sym c.in-default.ensures) c.loop-kind.invariant
+    c.loop-kind-test.true (sym c.in_default.ensures) c.loop-kind.invariant
 
 pub returns : goal.returns
 returns g c = λ kind. c.loop-kind.invariant kind (omega (arith, kind_small kind, c.loop-kind-test.false))

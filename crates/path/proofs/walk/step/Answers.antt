@@ -3,10 +3,10 @@ use Rattle.path.proofs.LookUps.{of_label, of_recipe}
 use Rattle.path.proofs.walk.step.Goals as goal
 
 pub returns-then-followed : goal.returns-then-followed
-returns-then-followed g c = Stops.unknown_submodule c.if-followed.true c.in-default.ensures
+returns-then-followed g c = Stops.unknown_submodule c.if-followed.true c.in_default.ensures
 
-pub returns-in-default : goal.returns-in-default
-returns-in-default g c = Stops.unknown_recipe c.if-followed.false c.in-default.ensures
+pub returns-in_default : goal.returns-in_default
+returns-in_default g c = Stops.unknown_recipe c.if-followed.false c.in_default.ensures
 
 pub returns-in-Recipe : goal.returns-in-Recipe
 returns-in-Recipe g c = Stops.recipe_followed c.if-followed-2.true (of_recipe _ _ _ c.in-Some.ensures c.in-Recipe.is)

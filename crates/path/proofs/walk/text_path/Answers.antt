@@ -4,11 +4,11 @@ use Rattle.path.specs.Path.{Gives, PathFault}
 use Rattle.path.proofs.Theorem.{gives_answer}
 use Rattle.path.proofs.walk.text_path.Goals as goal
 
-pub returns-then-is-well-formed : goal.returns-then-is-well-formed
-returns-then-is-well-formed g c =
-    let p = c.is-well-formed.ensures.means.0 c.if-is-well-formed.true in
-    λ word rest colon meant. gives_answer (g.R.Register.names c.args.register.now) (Gives.one_word colon meant p.1) c.walk-pieces.result (c.walk-pieces.ensures p.0 p.1)
+pub returns-then-is_well_formed : goal.returns-then-is_well_formed
+returns-then-is_well_formed g c =
+    let p = c.is_well_formed.ensures.means.0 c.if-is_well_formed.true in
+    λ word rest colon meant. gives_answer (g.R.Register.names c.args.register.now) (Gives.one_word colon meant p.1) c.walk_pieces.result (c.walk_pieces.ensures p.0 p.1)
 
-pub returns-else-is-well-formed : goal.returns-else-is-well-formed
-returns-else-is-well-formed g c =
-    λ word rest colon meant. PathFault.malformed colon meant (λ pieces p. true≢false (sym (c.is-well-formed.ensures.means.1 (pieces, p)) ∙ c.if-is-well-formed.false))
+pub returns-else-is_well_formed : goal.returns-else-is_well_formed
+returns-else-is_well_formed g c =
+    λ word rest colon meant. PathFault.malformed colon meant (λ pieces p. true≢false (sym (c.is_well_formed.ensures.means.1 (pieces, p)) ∙ c.if-is_well_formed.false))

@@ -10,29 +10,29 @@ loop-i-init g c =
     let names = g.R.Register.names c.args.register.now in
     subst (Leads names names.root []) (sym c.root-module.ensures) Leads.here
 
-pub returns-in-err-next : goal.returns-in-err-next
-returns-in-err-next g c =
+pub returns-in_err-next : goal.returns-in_err-next
+returns-in_err-next g c =
     let names = g.R.Register.names c.args.register.now in let bytes = c.args.bytes.now in let words = c.args.words.now in
-    stray_out names (of_words (texts_at bytes words)) c.from-residual.result c.in-err-next.field-0.0 c.from-residual.ensures.1
-    (word_stops names bytes words c.loop-i.i c.loop-i.«module» c.loop-i.invariant _ c.loop-i-test.true c.text-at.result.now c.text-at.ensures _ c.in-err-next.ensures)
+    stray_out names (of_words (texts_at bytes words)) c.from_residual.result c.in_err-next.field-0.0 c.from_residual.ensures.1
+    (word_stops names bytes words c.loop-i.i c.loop-i.«module» c.loop-i.invariant _ c.loop-i-test.true c.text_at.result.now c.text_at.ensures _ c.in_err-next.ensures)
 
 pub returns-in-Take : goal.returns-in-Take
 returns-in-Take g c =
-    word_takes (g.R.Register.names c.args.register.now) c.args.bytes.now c.args.words.now c.loop-i.i c.loop-i.«module» c.loop-i.invariant _ c.loop-i-test.true c.text-at.result.now c.text-at.ensures
-    c.in-ok-next.field-0 c.in-Take.recipe c.in-ok-next.ensures c.in-Take.is
+    word_takes (g.R.Register.names c.args.register.now) c.args.bytes.now c.args.words.now c.loop-i.i c.loop-i.«module» c.loop-i.invariant _ c.loop-i-test.true c.text_at.result.now c.text_at.ensures
+    c.in_ok-next.field-0 c.in-Take.recipe c.in_ok-next.ensures c.in-Take.is
 
 pub loop-i-preserved : goal.loop-i-preserved
 loop-i-preserved g c =
-    word_enters (g.R.Register.names c.args.register.now) c.args.bytes.now c.args.words.now c.loop-i.i c.loop-i.«module» c.loop-i.invariant _ c.loop-i-test.true c.text-at.result.now c.text-at.ensures
-    c.in-ok-next.field-0 c.in-Enter.next c.in-ok-next.ensures c.in-Enter.is
+    word_enters (g.R.Register.names c.args.register.now) c.args.bytes.now c.args.words.now c.loop-i.i c.loop-i.«module» c.loop-i.invariant _ c.loop-i-test.true c.text_at.result.now c.text_at.ensures
+    c.in_ok-next.field-0 c.in-Enter.next c.in_ok-next.ensures c.in-Enter.is
 
-pub returns-in-err-recipe : goal.returns-in-err-recipe
-returns-in-err-recipe g c =
+pub returns-in_err-recipe : goal.returns-in_err-recipe
+returns-in_err-recipe g c =
     let names = g.R.Register.names c.args.register.now in let bytes = c.args.bytes.now in let words = c.args.words.now in
-    stray_out names (of_words (texts_at bytes words)) c.from-residual-in-err-recipe.result c.in-err-recipe.field-0.0 c.from-residual-in-err-recipe.ensures.1
-    (words_lack names bytes words c.loop-i.i c.loop-i.«module» c.loop-i.invariant c.loop-i-test.false _ c.in-err-recipe.ensures)
+    stray_out names (of_words (texts_at bytes words)) c.from_residual-in_err-recipe.result c.in_err-recipe.field-0.0 c.from_residual-in_err-recipe.ensures.1
+    (words_lack names bytes words c.loop-i.i c.loop-i.«module» c.loop-i.invariant c.loop-i-test.false _ c.in_err-recipe.ensures)
 
 pub returns : goal.returns
 returns g c =
     words_end (g.R.Register.names c.args.register.now) c.args.bytes.now c.args.words.now c.loop-i.i c.loop-i.«module» c.loop-i.invariant c.loop-i-test.false
-    c.in-ok-recipe.recipe c.in-ok-recipe.ensures
+    c.in_ok-recipe.recipe c.in_ok-recipe.ensures

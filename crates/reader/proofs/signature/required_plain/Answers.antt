@@ -6,11 +6,11 @@ use Rattle.reading.specs.Model.{taker}
 use Rattle.reader.specs.Bare.{bare_option, bare_required}
 use Rattle.reader.proofs.Places.{There, there, gone, onward, onward_zero, taker_passes, taker_first, taker_further, taker_next, counts, counts_not}
 use Rattle.reader.proofs.signature.required_plain.Goals as goal
-use Rattle.reader.proofs.signature.required_plain.Goals.{then-is-required-plain, else-is-required-plain}
+use Rattle.reader.proofs.signature.required_plain.Goals.{then-is_required_plain, else-is_required_plain}
 use Rattle.register.specs.declared.parameter.Parameter.{Parameter}
 
-pub overflow-add-place : goal.overflow-add-place
-overflow-add-place g c =
+pub overflow_add-place : goal.overflow_add-place
+overflow_add-place g c =
     let ps = (g.R.Register.signatures c.args.register.now).parameters c.args.recipe in
     let few = g.R.Register.few c.args.register.now c.args.recipe in
     let t = there ps c.loop-parameter.place c.in-Some.parameter c.in-Some.ensures in let within = t.within in
@@ -23,8 +23,8 @@ loop-parameter-smaller g c =
     let t = there ps c.loop-parameter.place c.in-Some.parameter c.in-Some.ensures in let within = t.within in
     omega arith
 
-pub overflow-add-count : goal.overflow-add-count
-overflow-add-count g c =
+pub overflow_add-count : goal.overflow_add-count
+overflow_add-count g c =
     let ps = (g.R.Register.signatures c.args.register.now).parameters c.args.recipe in
     let few = g.R.Register.few c.args.register.now c.args.recipe in
     let t = there ps c.loop-parameter.place c.in-Some.parameter c.in-Some.ensures in let within = t.within in
@@ -37,13 +37,13 @@ loop-parameter-preserved g c =
     let t = there ps c.loop-parameter.place c.in-Some.parameter c.in-Some.ensures in let within = t.within in
     let test = λ (m : ParameterMeaning). required m && not (is_option m) in
     let bare = λ (q : Parameter). bare_required q && not (bare_option q) in
-    elim c.if-is-required-plain.branch [
-      | then-is-required-plain w ↦ (let h = counts ps c.loop-parameter.place c.in-Some.parameter t test (ap bare t.is ∙ sym c.is-required-plain.ensures ∙ w.if-is-required-plain.true) in (omega (arith, w.count-is), omega (arith, w.count-is)))
-      | else-is-required-plain w ↦ (let h = counts_not ps c.loop-parameter.place c.in-Some.parameter t test (ap bare t.is ∙ sym c.is-required-plain.ensures ∙ w.if-is-required-plain.false) in (omega (arith, w.count-is), omega (arith, w.count-is)))
+    elim c.if-is_required_plain.branch [
+      | then-is_required_plain w ↦ (let h = counts ps c.loop-parameter.place c.in-Some.parameter t test (ap bare t.is ∙ sym c.is_required_plain.ensures ∙ w.if-is_required_plain.true) in (omega (arith, w.count-is), omega (arith, w.count-is)))
+      | else-is_required_plain w ↦ (let h = counts_not ps c.loop-parameter.place c.in-Some.parameter t test (ap bare t.is ∙ sym c.is_required_plain.ensures ∙ w.if-is_required_plain.false) in (omega (arith, w.count-is), omega (arith, w.count-is)))
     ]
 
 pub returns : goal.returns
 returns g c =
     let ps = (g.R.Register.signatures c.args.register.now).parameters c.args.recipe in
     let few = g.R.Register.few c.args.register.now c.args.recipe in
-    omega (arith, ap required_plain (gone ps c.loop-parameter.place c.parameter.result c.in-default.is c.parameter.ensures))
+    omega (arith, ap required_plain (gone ps c.loop-parameter.place c.parameter.result c.in_default.is c.parameter.ensures))

@@ -13,19 +13,19 @@ loop-at-init g c =
     let ps = (g.R.Register.signatures c.args.register.now).parameters c.args.recipe in
     (omega arith, omega arith, omega arith, λ bytes. on_start ps c.args.word (option_map (text_at bytes) c.args.value) (values_of bytes c.args.values.now) c.args.name.now)
 
-pub returns-in-err-waiting : goal.returns-in-err-waiting
-returns-in-err-waiting g c =
+pub returns-in_err-waiting : goal.returns-in_err-waiting
+returns-in_err-waiting g c =
     let ps = (g.R.Register.signatures c.args.register.now).parameters c.args.recipe in
-    let name = c.args.name.now in let i = c.loop-at.at in let len = c.letter-length-len.result in
+    let name = c.args.name.now in let i = c.loop-at.at in let len = c.letter_length-len.result in
     let rest = take (length name - i) (drop i name) in
-    let p = err_from_is_err_and c.from-residual.result c.from-residual.ensures.1 in
+    let p = err_from_is_err_and c.from_residual.result c.from_residual.ensures.1 in
     let z : len - 0 ≡ len = omega arith in
-    let short : length (take (len - 0) rest) ≤ 4 = omega (arith, length-take (len - 0) rest, c.letter-length-len.ensures.few) in
+    let short : length (take (len - 0) rest) ≤ 4 = omega (arith, length-take (len - 0) rest, c.letter_length-len.ensures.few) in
     record {
       runs = λ bytes.
           ap (λ r. did_of ps bytes r c.apply.new.self) (p.1 ∙ ap Err p.2)
-          ∙ sym (letter_turn ps c.args.word (option_map (text_at bytes) c.args.value) (values_of bytes c.loop-at.values) (waiting_of ps c.loop-at.waiting) c.loop-at.letter name rest (take (len - 0) rest) i len c.letter-code.result c.letter-place.result _ c.loop-at-test.true (take_rest name i) c.letter-length-len.ensures.value c.letter-length-len.ensures.within (ap (λ k. take k rest) z) (c.letter-code.ensures short) c.letter-place.ensures
-          (sym (ap (λ r. did_of ps bytes r c.apply.new.self) c.in-err-waiting.was) ∙ c.apply.ensures.applies ps _ bytes c.called-at-called.ensures))
+          ∙ sym (letter_turn ps c.args.word (option_map (text_at bytes) c.args.value) (values_of bytes c.loop-at.values) (waiting_of ps c.loop-at.waiting) c.loop-at.letter name rest (take (len - 0) rest) i len c.letter_code.result c.letter-place.result _ c.loop-at-test.true (take_rest name i) c.letter_length-len.ensures.value c.letter_length-len.ensures.within (ap (λ k. take k rest) z) (c.letter_code.ensures short) c.letter-place.ensures
+          (sym (ap (λ r. did_of ps bytes r c.apply.new.self) c.in_err-waiting.was) ∙ c.apply.ensures.applies ps _ bytes c.called_at-called.ensures))
           ∙ c.loop-at.invariant.3 bytes;
       room = omega (arith, c.apply.ensures.room, c.loop-at.invariant.2);
     }
@@ -33,17 +33,17 @@ returns-in-err-waiting g c =
 pub loop-at-preserved : goal.loop-at-preserved
 loop-at-preserved g c =
     let ps = (g.R.Register.signatures c.args.register.now).parameters c.args.recipe in
-    let name = c.args.name.now in let i = c.loop-at.at in let len = c.letter-length-len.result in
+    let name = c.args.name.now in let i = c.loop-at.at in let len = c.letter_length-len.result in
     let rest = take (length name - i) (drop i name) in
     let z : len - 0 ≡ len = omega arith in
     let l : length rest ≡ length name - i = ap length (take_rest name i) ∙ length-drop i name in
-    let short : length (take (len - 0) rest) ≤ 4 = omega (arith, length-take (len - 0) rest, c.letter-length-len.ensures.few) in (
-      omega (arith, c.letter-length-len.ensures.within),
-      omega (arith, c.letter-length-len.ensures.some),
-      omega (arith, c.letter-length-len.ensures.some, c.apply.ensures.room),
+    let short : length (take (len - 0) rest) ≤ 4 = omega (arith, length-take (len - 0) rest, c.letter_length-len.ensures.few) in (
+      omega (arith, c.letter_length-len.ensures.within),
+      omega (arith, c.letter_length-len.ensures.some),
+      omega (arith, c.letter_length-len.ensures.some, c.apply.ensures.room),
       λ bytes.
-          sym (letter_turn ps c.args.word (option_map (text_at bytes) c.args.value) (values_of bytes c.loop-at.values) (waiting_of ps c.loop-at.waiting) c.loop-at.letter name rest (take (len - 0) rest) i len c.letter-code.result c.letter-place.result _ c.loop-at-test.true (take_rest name i) c.letter-length-len.ensures.value c.letter-length-len.ensures.within (ap (λ k. take k rest) z) (c.letter-code.ensures short) c.letter-place.ensures
-          (sym (ap (λ r. did_of ps bytes r c.apply.new.self) c.in-ok-waiting.was) ∙ c.apply.ensures.applies ps _ bytes c.called-at-called.ensures))
+          sym (letter_turn ps c.args.word (option_map (text_at bytes) c.args.value) (values_of bytes c.loop-at.values) (waiting_of ps c.loop-at.waiting) c.loop-at.letter name rest (take (len - 0) rest) i len c.letter_code.result c.letter-place.result _ c.loop-at-test.true (take_rest name i) c.letter_length-len.ensures.value c.letter_length-len.ensures.within (ap (λ k. take k rest) z) (c.letter_code.ensures short) c.letter-place.ensures
+          (sym (ap (λ r. did_of ps bytes r c.apply.new.self) c.in_ok-waiting.was) ∙ c.apply.ensures.applies ps _ bytes c.called_at-called.ensures))
           ∙ c.loop-at.invariant.3 bytes,
     )
 

@@ -8,11 +8,11 @@ use Rattle.records.proofs.modules.read_modules.Goals as goal
 pub loop-i-init : goal.loop-i-init
 loop-i-init c = (filled_start 64 c.args.count c.args.rows.now c.requires c.told-rows, (None, fill_start (λ _. module_record c.args.recipes) module_at c.args.cursor.now c.args.count c.args.rows.now))
 
-pub returns-in-err-row : goal.returns-in-err-row
-returns-in-err-row c =
+pub returns-in_err-row : goal.returns-in_err-row
+returns-in_err-row c =
     let t = c.loop-i.invariant.1 in
     record {
-      reads = fill_stop (λ _. module_record c.args.recipes) module_at c.args.cursor.now c.args.count c.loop-i.i c.loop-i.rows t.0 c.loop-i.cursor t.1 c.loop-i-test.true c.read-module.result c.read-module.new.cursor c.read-module.ensures _ c.in-err-row.was c.from-residual.ensures.1;
+      reads = fill_stop (λ _. module_record c.args.recipes) module_at c.args.cursor.now c.args.count c.loop-i.i c.loop-i.rows t.0 c.loop-i.cursor t.1 c.loop-i-test.true c.read_module.result c.read_module.new.cursor c.read_module.ensures _ c.in_err-row.was c.from_residual.ensures.1;
       filled = c.loop-i.invariant.0;
     }
 
@@ -22,7 +22,7 @@ loop-i-preserved c =
     let f = c.loop-i.invariant.0 in
     let less = c.loop-i-test.true in
     let room = filled_room 64 c.args.count _ c.loop-i.rows c.loop-i.i f less in
-    (filled_on 64 c.args.count _ c.loop-i.rows c.loop-i.i f less _, (_, fill_on (λ _. module_record c.args.recipes) module_at c.args.cursor.now c.args.count c.loop-i.i c.loop-i.rows t.0 c.loop-i.cursor t.1 less c.read-module.result c.read-module.new.cursor c.read-module.ensures _ c.in-ok-row.was room))
+    (filled_on 64 c.args.count _ c.loop-i.rows c.loop-i.i f less _, (_, fill_on (λ _. module_record c.args.recipes) module_at c.args.cursor.now c.args.count c.loop-i.i c.loop-i.rows t.0 c.loop-i.cursor t.1 less c.read_module.result c.read_module.new.cursor c.read_module.ensures _ c.in_ok-row.was room))
 
 pub returns : goal.returns
 returns c =

@@ -10,89 +10,89 @@ use Rattle.format.specs.Format.{both}
 use Rattle.format.proofs.Towards.{begin, through, stopped, ends, finished, stopped_last}
 use Rattle.records.proofs.parameters.read_parameter.Goals as goal
 
-pub returns-in-err-map : goal.returns-in-err-map
-returns-in-err-map c =
+pub returns-in_err-map : goal.returns-in_err-map
+returns-in_err-map c =
     let t = begin (parameter_parts c.args.patterns) c.args.cursor.now in
-    stopped _ _ t c.read-u16-below.ensures parts_of_parameter parameter_at c.in-err-map.was c.from-residual.ensures.1
+    stopped _ _ t c.read_u16_below.ensures parts_of_parameter parameter_at c.in_err-map.was c.from_residual.ensures.1
 
-pub returns-in-err-default : goal.returns-in-err-default
-returns-in-err-default c =
+pub returns-in_err-default : goal.returns-in_err-default
+returns-in_err-default c =
     let t = begin (parameter_parts c.args.patterns) c.args.cursor.now in
-    let t = through _ _ t c.read-u16-below.ensures _ c.in-ok-map.was in
-    stopped _ _ t c.read-plain-if.ensures parts_of_parameter parameter_at c.in-err-default.was c.from-residual-in-err-default.ensures.1
+    let t = through _ _ t c.read_u16_below.ensures _ c.in_ok-map.was in
+    stopped _ _ t c.read_plain_if.ensures parts_of_parameter parameter_at c.in_err-default.was c.from_residual-in_err-default.ensures.1
 
-pub returns-in-err-kind : goal.returns-in-err-kind
-returns-in-err-kind c =
+pub returns-in_err-kind : goal.returns-in_err-kind
+returns-in_err-kind c =
     let t = begin (parameter_parts c.args.patterns) c.args.cursor.now in
-    let t = through _ _ t c.read-u16-below.ensures _ c.in-ok-map.was in
-    let t = through _ _ t c.read-plain-if.ensures _ c.in-ok-default.was in
-    stopped _ _ t c.read-u8-within-if.ensures parts_of_parameter parameter_at c.in-err-kind.was c.from-residual-in-err-kind.ensures.1
+    let t = through _ _ t c.read_u16_below.ensures _ c.in_ok-map.was in
+    let t = through _ _ t c.read_plain_if.ensures _ c.in_ok-default.was in
+    stopped _ _ t c.read_u8_within_if.ensures parts_of_parameter parameter_at c.in_err-kind.was c.from_residual-in_err-kind.ensures.1
 
-pub returns-in-err-long : goal.returns-in-err-long
-returns-in-err-long c =
+pub returns-in_err-long : goal.returns-in_err-long
+returns-in_err-long c =
     let t = begin (parameter_parts c.args.patterns) c.args.cursor.now in
-    let t = through _ _ t c.read-u16-below.ensures _ c.in-ok-map.was in
-    let t = through _ _ t c.read-plain-if.ensures _ c.in-ok-default.was in
-    let t = through _ _ t c.read-u8-within-if.ensures _ c.in-ok-kind.was in
-    stopped _ _ t c.read-plain-if-2.ensures parts_of_parameter parameter_at c.in-err-long.was c.from-residual-in-err-long.ensures.1
+    let t = through _ _ t c.read_u16_below.ensures _ c.in_ok-map.was in
+    let t = through _ _ t c.read_plain_if.ensures _ c.in_ok-default.was in
+    let t = through _ _ t c.read_u8_within_if.ensures _ c.in_ok-kind.was in
+    stopped _ _ t c.read_plain_if-2.ensures parts_of_parameter parameter_at c.in_err-long.was c.from_residual-in_err-long.ensures.1
 
-pub returns-in-err-letter : goal.returns-in-err-letter
-returns-in-err-letter c =
+pub returns-in_err-letter : goal.returns-in_err-letter
+returns-in_err-letter c =
     let t = begin (parameter_parts c.args.patterns) c.args.cursor.now in
-    let t = through _ _ t c.read-u16-below.ensures _ c.in-ok-map.was in
-    let t = through _ _ t c.read-plain-if.ensures _ c.in-ok-default.was in
-    let t = through _ _ t c.read-u8-within-if.ensures _ c.in-ok-kind.was in
-    let t = through _ _ t c.read-plain-if-2.ensures _ c.in-ok-long.was in
-    stopped _ _ t c.read-letter-if.ensures parts_of_parameter parameter_at c.in-err-letter.was c.from-residual-in-err-letter.ensures.1
+    let t = through _ _ t c.read_u16_below.ensures _ c.in_ok-map.was in
+    let t = through _ _ t c.read_plain_if.ensures _ c.in_ok-default.was in
+    let t = through _ _ t c.read_u8_within_if.ensures _ c.in_ok-kind.was in
+    let t = through _ _ t c.read_plain_if-2.ensures _ c.in_ok-long.was in
+    stopped _ _ t c.read_letter_if.ensures parts_of_parameter parameter_at c.in_err-letter.was c.from_residual-in_err-letter.ensures.1
 
-pub returns-in-err-min : goal.returns-in-err-min
-returns-in-err-min c =
+pub returns-in_err-min : goal.returns-in_err-min
+returns-in_err-min c =
     let t = begin (parameter_parts c.args.patterns) c.args.cursor.now in
-    let t = through _ _ t c.read-u16-below.ensures _ c.in-ok-map.was in
-    let t = through _ _ t c.read-plain-if.ensures _ c.in-ok-default.was in
-    let t = through _ _ t c.read-u8-within-if.ensures _ c.in-ok-kind.was in
-    let t = through _ _ t c.read-plain-if-2.ensures _ c.in-ok-long.was in
-    let t = through _ _ t c.read-letter-if.ensures _ c.in-ok-letter.was in
-    stopped _ _ t c.read-u32-if.ensures parts_of_parameter parameter_at c.in-err-min.was c.from-residual-in-err-min.ensures.1
+    let t = through _ _ t c.read_u16_below.ensures _ c.in_ok-map.was in
+    let t = through _ _ t c.read_plain_if.ensures _ c.in_ok-default.was in
+    let t = through _ _ t c.read_u8_within_if.ensures _ c.in_ok-kind.was in
+    let t = through _ _ t c.read_plain_if-2.ensures _ c.in_ok-long.was in
+    let t = through _ _ t c.read_letter_if.ensures _ c.in_ok-letter.was in
+    stopped _ _ t c.read_u32_if.ensures parts_of_parameter parameter_at c.in_err-min.was c.from_residual-in_err-min.ensures.1
 
-pub returns-in-err-max : goal.returns-in-err-max
-returns-in-err-max c =
+pub returns-in_err-max : goal.returns-in_err-max
+returns-in_err-max c =
     let t = begin (parameter_parts c.args.patterns) c.args.cursor.now in
-    let t = through _ _ t c.read-u16-below.ensures _ c.in-ok-map.was in
-    let t = through _ _ t c.read-plain-if.ensures _ c.in-ok-default.was in
-    let t = through _ _ t c.read-u8-within-if.ensures _ c.in-ok-kind.was in
-    let t = through _ _ t c.read-plain-if-2.ensures _ c.in-ok-long.was in
-    let t = through _ _ t c.read-letter-if.ensures _ c.in-ok-letter.was in
-    let t = through _ _ t c.read-u32-if.ensures _ c.in-ok-min.was in
-    stopped _ _ t c.read-u32-if-2.ensures parts_of_parameter parameter_at c.in-err-max.was c.from-residual-in-err-max.ensures.1
+    let t = through _ _ t c.read_u16_below.ensures _ c.in_ok-map.was in
+    let t = through _ _ t c.read_plain_if.ensures _ c.in_ok-default.was in
+    let t = through _ _ t c.read_u8_within_if.ensures _ c.in_ok-kind.was in
+    let t = through _ _ t c.read_plain_if-2.ensures _ c.in_ok-long.was in
+    let t = through _ _ t c.read_letter_if.ensures _ c.in_ok-letter.was in
+    let t = through _ _ t c.read_u32_if.ensures _ c.in_ok-min.was in
+    stopped _ _ t c.read_u32_if-2.ensures parts_of_parameter parameter_at c.in_err-max.was c.from_residual-in_err-max.ensures.1
 
-pub returns-in-err-pattern : goal.returns-in-err-pattern
-returns-in-err-pattern c =
+pub returns-in_err-pattern : goal.returns-in_err-pattern
+returns-in_err-pattern c =
     let t = begin (parameter_parts c.args.patterns) c.args.cursor.now in
-    let t = through _ _ t c.read-u16-below.ensures _ c.in-ok-map.was in
-    let t = through _ _ t c.read-plain-if.ensures _ c.in-ok-default.was in
-    let t = through _ _ t c.read-u8-within-if.ensures _ c.in-ok-kind.was in
-    let t = through _ _ t c.read-plain-if-2.ensures _ c.in-ok-long.was in
-    let t = through _ _ t c.read-letter-if.ensures _ c.in-ok-letter.was in
-    let t = through _ _ t c.read-u32-if.ensures _ c.in-ok-min.was in
-    let t = through _ _ t c.read-u32-if-2.ensures _ c.in-ok-max.was in
-    stopped_last t c.read-u8-below-if.ensures parts_of_parameter parameter_at c.in-err-pattern.was c.from-residual-in-err-pattern.ensures.1
+    let t = through _ _ t c.read_u16_below.ensures _ c.in_ok-map.was in
+    let t = through _ _ t c.read_plain_if.ensures _ c.in_ok-default.was in
+    let t = through _ _ t c.read_u8_within_if.ensures _ c.in_ok-kind.was in
+    let t = through _ _ t c.read_plain_if-2.ensures _ c.in_ok-long.was in
+    let t = through _ _ t c.read_letter_if.ensures _ c.in_ok-letter.was in
+    let t = through _ _ t c.read_u32_if.ensures _ c.in_ok-min.was in
+    let t = through _ _ t c.read_u32_if-2.ensures _ c.in_ok-max.was in
+    stopped_last t c.read_u8_below_if.ensures parts_of_parameter parameter_at c.in_err-pattern.was c.from_residual-in_err-pattern.ensures.1
 
 pub returns : goal.returns
 unfolding both
 returns c =
     let t = begin (parameter_parts c.args.patterns) c.args.cursor.now in
-    let t = through _ _ t c.read-u16-below.ensures _ c.in-ok-map.was in
-    let t = through _ _ t c.read-plain-if.ensures _ c.in-ok-default.was in
-    let t = through _ _ t c.read-u8-within-if.ensures _ c.in-ok-kind.was in
-    let t = through _ _ t c.read-plain-if-2.ensures _ c.in-ok-long.was in
-    let t = through _ _ t c.read-letter-if.ensures _ c.in-ok-letter.was in
-    let t = through _ _ t c.read-u32-if.ensures _ c.in-ok-min.was in
-    let t = through _ _ t c.read-u32-if-2.ensures _ c.in-ok-max.was in
-    let k = (ends t c.read-u8-below-if.ensures _ c.in-ok-pattern.was).keeps in
-    let m = c.in-ok-map.map in
+    let t = through _ _ t c.read_u16_below.ensures _ c.in_ok-map.was in
+    let t = through _ _ t c.read_plain_if.ensures _ c.in_ok-default.was in
+    let t = through _ _ t c.read_u8_within_if.ensures _ c.in_ok-kind.was in
+    let t = through _ _ t c.read_plain_if-2.ensures _ c.in_ok-long.was in
+    let t = through _ _ t c.read_letter_if.ensures _ c.in_ok-letter.was in
+    let t = through _ _ t c.read_u32_if.ensures _ c.in_ok-min.was in
+    let t = through _ _ t c.read_u32_if-2.ensures _ c.in_ok-max.was in
+    let k = (ends t c.read_u8_below_if.ensures _ c.in_ok-pattern.was).keeps in
+    let m = c.in_ok-map.map in
     let image = c.args.cursor.now.image.now in
-    let p = parameter_at image (record { default = c.in-ok-default.default; flag = c.has.result; multiple = c.has-2.result; value = c.has-3.result; kind = c.in-ok-kind.kind; long = c.in-ok-long.long; letter = c.in-ok-letter.letter; min = c.in-ok-min.min; max = c.in-ok-max.max; pattern = c.in-ok-pattern.pattern }) in
+    let p = parameter_at image (record { default = c.in_ok-default.default; flag = c.has.result; multiple = c.has-2.result; value = c.has-3.result; kind = c.in_ok-kind.kind; long = c.in_ok-long.long; letter = c.in_ok-letter.letter; min = c.in_ok-min.min; max = c.in_ok-max.max; pattern = c.in_ok-pattern.pattern }) in
     let e = map_ten m p k.0.1
     (stands_bit _ (plain_text 0) _ k.1.0) c.has.ensures c.has-2.ensures c.has-3.ensures
     (stands_bit _ (within 1 2 1) _ k.1.1.0)
@@ -101,4 +101,4 @@ returns c =
     (stands_bit _ (number 4) _ k.1.1.1.1.1.0)
     (stands_bit _ (number 4) _ k.1.1.1.1.1.1.0)
     (stands_bit _ (below c.args.patterns 1) _ k.1.1.1.1.1.1.1) in
-    finished t c.read-u8-below-if.ensures parts_of_parameter parameter_at _ _ c.in-ok-pattern.was (ap (λ x. (x, (parts_of_parameter p).1)) e)
+    finished t c.read_u8_below_if.ensures parts_of_parameter parameter_at _ _ c.in_ok-pattern.was (ap (λ x. (x, (parts_of_parameter p).1)) e)

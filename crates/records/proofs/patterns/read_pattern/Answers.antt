@@ -11,46 +11,46 @@ use Rattle.format.specs.Format.{both}
 use Rattle.format.proofs.Towards.{begin, through, stopped, ends, finished, stopped_last}
 use Rattle.records.proofs.patterns.read_pattern.Goals as goal
 
-pub returns-in-err-map : goal.returns-in-err-map
-returns-in-err-map c =
+pub returns-in_err-map : goal.returns-in_err-map
+returns-in_err-map c =
     let t = begin pattern_parts c.args.cursor.now in
     record {
-      reads = stopped _ _ t c.read-u8-below.ensures parts_of_pattern pattern_at c.in-err-map.was c.from-residual.ensures.1;
-      tidy = IfOk-from_err c.from-residual.result _ c.from-residual.ensures.0;
+      reads = stopped _ _ t c.read_u8_below.ensures parts_of_pattern pattern_at c.in_err-map.was c.from_residual.ensures.1;
+      tidy = IfOk-from_err c.from_residual.result _ c.from_residual.ensures.0;
     }
 
-pub returns-in-err-count : goal.returns-in-err-count
-returns-in-err-count c =
+pub returns-in_err-count : goal.returns-in_err-count
+returns-in_err-count c =
     let t = begin pattern_parts c.args.cursor.now in
-    let t = through _ _ t c.read-u8-below.ensures _ c.in-ok-map.was in
+    let t = through _ _ t c.read_u8_below.ensures _ c.in_ok-map.was in
     record {
-      reads = stopped _ _ t c.read-counted-if.ensures.reads parts_of_pattern pattern_at c.in-err-count.was c.from-residual-in-err-count.ensures.1;
-      tidy = IfOk-from_err c.from-residual-in-err-count.result _ c.from-residual-in-err-count.ensures.0;
+      reads = stopped _ _ t c.read_counted_if.ensures.reads parts_of_pattern pattern_at c.in_err-count.was c.from_residual-in_err-count.ensures.1;
+      tidy = IfOk-from_err c.from_residual-in_err-count.result _ c.from_residual-in_err-count.ensures.0;
     }
 
-pub returns-in-err-gauge : goal.returns-in-err-gauge
-returns-in-err-gauge c =
+pub returns-in_err-gauge : goal.returns-in_err-gauge
+returns-in_err-gauge c =
     let t = begin pattern_parts c.args.cursor.now in
-    let t = through _ _ t c.read-u8-below.ensures _ c.in-ok-map.was in
-    let t = through _ _ t c.read-counted-if.ensures.reads _ c.in-ok-count.was in
+    let t = through _ _ t c.read_u8_below.ensures _ c.in_ok-map.was in
+    let t = through _ _ t c.read_counted_if.ensures.reads _ c.in_ok-count.was in
     record {
-      reads = stopped_last t c.read-gauge-if.ensures parts_of_pattern pattern_at c.in-err-gauge.was c.from-residual-in-err-gauge.ensures.1;
-      tidy = IfOk-from_err c.from-residual-in-err-gauge.result _ c.from-residual-in-err-gauge.ensures.0;
+      reads = stopped_last t c.read_gauge_if.ensures parts_of_pattern pattern_at c.in_err-gauge.was c.from_residual-in_err-gauge.ensures.1;
+      tidy = IfOk-from_err c.from_residual-in_err-gauge.result _ c.from_residual-in_err-gauge.ensures.0;
     }
 
 pub returns : goal.returns
 unfolding both
 returns c =
     let t = begin pattern_parts c.args.cursor.now in
-    let t = through _ _ t c.read-u8-below.ensures _ c.in-ok-map.was in
-    let t = through _ _ t c.read-counted-if.ensures.reads _ c.in-ok-count.was in
-    let k = (ends t c.read-gauge-if.ensures _ c.in-ok-gauge.was).keeps in
+    let t = through _ _ t c.read_u8_below.ensures _ c.in_ok-map.was in
+    let t = through _ _ t c.read_counted_if.ensures.reads _ c.in_ok-count.was in
+    let k = (ends t c.read_gauge_if.ensures _ c.in_ok-gauge.was).keeps in
     let image = c.args.cursor.now.image.now in
-    let n = c.in-ok-count.count in
-    let rs = c.read-counted-if.new.rows in
-    let gauge = option_map range_at c.in-ok-gauge.gauge in
-    let e = map_two c.in-ok-map.map (counted 1 16 (plain_text 1)) (some_rows_at text_at rs n image) range gauge k.0.1 k.1.0 k.1.1 in
+    let n = c.in_ok-count.count in
+    let rs = c.read_counted_if.new.rows in
+    let gauge = option_map range_at c.in_ok-gauge.gauge in
+    let e = map_two c.in_ok-map.map (counted 1 16 (plain_text 1)) (some_rows_at text_at rs n image) range gauge k.0.1 k.1.0 k.1.1 in
     record {
-      reads = finished t c.read-gauge-if.ensures parts_of_pattern pattern_at _ _ c.in-ok-gauge.was (ap (λ m. (m, (some_rows_at text_at rs n image, gauge))) e ∙ ap (λ l. parts_of_pattern (record { texts = l; range = gauge })) (listed_is image n rs));
-      tidy = c.in-ok-count.ensures.filled.rest;
+      reads = finished t c.read_gauge_if.ensures parts_of_pattern pattern_at _ _ c.in_ok-gauge.was (ap (λ m. (m, (some_rows_at text_at rs n image, gauge))) e ∙ ap (λ l. parts_of_pattern (record { texts = l; range = gauge })) (listed_is image n rs));
+      tidy = c.in_ok-count.ensures.filled.rest;
     }

@@ -8,37 +8,37 @@ use Rattle.format.specs.Format.{both}
 use Rattle.format.proofs.Towards.{begin, through, stopped, ends, finished, stopped_last}
 use Rattle.records.proofs.recipes.read_counted.Goals as goal
 
-pub returns-in-err-count : goal.returns-in-err-count
-returns-in-err-count c =
+pub returns-in_err-count : goal.returns-in_err-count
+returns-in_err-count c =
     let t = begin (counted_parts 1 16 (parameter_record c.args.patterns)) c.args.cursor.now in
     record {
-      reads = stopped _ _ t c.read-u8-within.ensures with_count _ c.in-err-count.was c.from-residual.ensures.1;
-      some = IfOk-from_err c.from-residual.result _ c.from-residual.ensures.0;
-      filled = IfOk-from_err c.from-residual.result _ c.from-residual.ensures.0;
+      reads = stopped _ _ t c.read_u8_within.ensures with_count _ c.in_err-count.was c.from_residual.ensures.1;
+      some = IfOk-from_err c.from_residual.result _ c.from_residual.ensures.0;
+      filled = IfOk-from_err c.from_residual.result _ c.from_residual.ensures.0;
     }
 
-pub returns-in-err-read-parameters : goal.returns-in-err-read-parameters
-returns-in-err-read-parameters c =
+pub returns-in_err-read_parameters : goal.returns-in_err-read_parameters
+returns-in_err-read_parameters c =
     let t = begin (counted_parts 1 16 (parameter_record c.args.patterns)) c.args.cursor.now in
-    let t = through _ _ t c.read-u8-within.ensures _ c.in-ok-count.was in
+    let t = through _ _ t c.read_u8_within.ensures _ c.in_ok-count.was in
     record {
-      reads = stopped_last t c.read-parameters.ensures.reads with_count _ c.in-err-read-parameters.was c.from-residual-in-err-read-parameters.ensures.1;
-      some = IfOk-from_err c.from-residual-in-err-read-parameters.result _ c.from-residual-in-err-read-parameters.ensures.0;
-      filled = IfOk-from_err c.from-residual-in-err-read-parameters.result _ c.from-residual-in-err-read-parameters.ensures.0;
+      reads = stopped_last t c.read_parameters.ensures.reads with_count _ c.in_err-read_parameters.was c.from_residual-in_err-read_parameters.ensures.1;
+      some = IfOk-from_err c.from_residual-in_err-read_parameters.result _ c.from_residual-in_err-read_parameters.ensures.0;
+      filled = IfOk-from_err c.from_residual-in_err-read_parameters.result _ c.from_residual-in_err-read_parameters.ensures.0;
     }
 
 pub returns : goal.returns
 unfolding both
 returns c =
     let t = begin (counted_parts 1 16 (parameter_record c.args.patterns)) c.args.cursor.now in
-    let t = through _ _ t c.read-u8-within.ensures _ c.in-ok-count.was in
-    let n = c.in-ok-count.count in
+    let t = through _ _ t c.read_u8_within.ensures _ c.in_ok-count.was in
+    let n = c.in_ok-count.count in
     let image = c.args.cursor.now.image.now in
-    let rs = c.read-parameters.new.rows in
-    let f = c.read-parameters.ensures.filled in
-    let k = (ends t c.read-parameters.ensures.reads _ c.in-ok-read-parameters.was).keeps in
+    let rs = c.read_parameters.new.rows in
+    let f = c.read_parameters.ensures.filled in
+    let k = (ends t c.read_parameters.ensures.reads _ c.in_ok-read_parameters.was).keeps in
     record {
-      reads = finished t c.read-parameters.ensures.reads with_count _ _ _ c.in-ok-read-parameters.was (ap (λ k. (k, rows_at parameter_at rs n image)) (filled-length parameter_at 16 n _ rs image f));
+      reads = finished t c.read_parameters.ensures.reads with_count _ _ _ c.in_ok-read_parameters.was (ap (λ k. (k, rows_at parameter_at rs n image)) (filled-length parameter_at 16 n _ rs image f));
       some = k.0.1.0;
       filled = f;
     }

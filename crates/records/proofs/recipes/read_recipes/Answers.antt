@@ -10,13 +10,13 @@ use Rattle.records.proofs.recipes.read_recipes.Goals as goal
 pub loop-i-init : goal.loop-i-init
 loop-i-init c = (filled_start 64 c.args.count c.args.rows.now c.requires c.told-rows, tt, (None, fill_start (λ _. recipe_record c.args.patterns) recipe_at c.args.cursor.now c.args.count c.args.rows.now))
 
-pub returns-in-err-row : goal.returns-in-err-row
-returns-in-err-row c =
+pub returns-in_err-row : goal.returns-in_err-row
+returns-in_err-row c =
     let t = c.loop-i.invariant.2 in
     record {
-      reads = fill_stop (λ _. recipe_record c.args.patterns) recipe_at c.args.cursor.now c.args.count c.loop-i.i c.loop-i.rows t.0 c.loop-i.cursor t.1 c.loop-i-test.true c.read-recipe.result c.read-recipe.new.cursor c.read-recipe.ensures.reads _ c.in-err-row.was c.from-residual.ensures.1;
+      reads = fill_stop (λ _. recipe_record c.args.patterns) recipe_at c.args.cursor.now c.args.count c.loop-i.i c.loop-i.rows t.0 c.loop-i.cursor t.1 c.loop-i-test.true c.read_recipe.result c.read_recipe.new.cursor c.read_recipe.ensures.reads _ c.in_err-row.was c.from_residual.ensures.1;
       filled = c.loop-i.invariant.0;
-      tidy = IfOk-from_err c.from-residual.result _ c.from-residual.ensures.0;
+      tidy = IfOk-from_err c.from_residual.result _ c.from_residual.ensures.0;
     }
 
 pub loop-i-preserved : goal.loop-i-preserved
@@ -25,7 +25,7 @@ loop-i-preserved c =
     let f = c.loop-i.invariant.0 in
     let less = c.loop-i-test.true in
     let room = filled_room 64 c.args.count _ c.loop-i.rows c.loop-i.i f less in
-    (filled_on 64 c.args.count _ c.loop-i.rows c.loop-i.i f less _, all_on RecipeTidy c.loop-i.rows c.loop-i.i c.loop-i.invariant.1 _ room c.in-ok-row.ensures.tidy, (_, fill_on (λ _. recipe_record c.args.patterns) recipe_at c.args.cursor.now c.args.count c.loop-i.i c.loop-i.rows t.0 c.loop-i.cursor t.1 less c.read-recipe.result c.read-recipe.new.cursor c.read-recipe.ensures.reads _ c.in-ok-row.was room))
+    (filled_on 64 c.args.count _ c.loop-i.rows c.loop-i.i f less _, all_on RecipeTidy c.loop-i.rows c.loop-i.i c.loop-i.invariant.1 _ room c.in_ok-row.ensures.tidy, (_, fill_on (λ _. recipe_record c.args.patterns) recipe_at c.args.cursor.now c.args.count c.loop-i.i c.loop-i.rows t.0 c.loop-i.cursor t.1 less c.read_recipe.result c.read_recipe.new.cursor c.read_recipe.ensures.reads _ c.in_ok-row.was room))
 
 pub returns : goal.returns
 returns c =

@@ -6,97 +6,97 @@ use Rattle.format.specs.Format.{both}
 use Rattle.format.proofs.Towards.{begin, through, stopped, finished, stopped_last}
 use Rattle.records.proofs.whole.read_tree.Goals as goal
 
-pub returns-in-err-counts : goal.returns-in-err-counts
-returns-in-err-counts c =
+pub returns-in_err-counts : goal.returns-in_err-counts
+returns-in_err-counts c =
     let t = begin tree_parts c.args.cursor.now in
     record {
-      reads = stopped _ _ t c.read-head.ensures.reads parts_of_tree (tree_at c.args.modules.now c.args.names.now c.args.recipes.now c.args.patterns.now) c.in-err-counts.was c.from-residual.ensures.1;
-      modules = IfOk-from_err c.from-residual.result _ c.from-residual.ensures.0;
-      names = IfOk-from_err c.from-residual.result _ c.from-residual.ensures.0;
-      recipes = IfOk-from_err c.from-residual.result _ c.from-residual.ensures.0;
-      patterns = IfOk-from_err c.from-residual.result _ c.from-residual.ensures.0;
-      parameters = IfOk-from_err c.from-residual.result _ c.from-residual.ensures.0;
-      texts = IfOk-from_err c.from-residual.result _ c.from-residual.ensures.0;
+      reads = stopped _ _ t c.read_head.ensures.reads parts_of_tree (tree_at c.args.modules.now c.args.names.now c.args.recipes.now c.args.patterns.now) c.in_err-counts.was c.from_residual.ensures.1;
+      modules = IfOk-from_err c.from_residual.result _ c.from_residual.ensures.0;
+      names = IfOk-from_err c.from_residual.result _ c.from_residual.ensures.0;
+      recipes = IfOk-from_err c.from_residual.result _ c.from_residual.ensures.0;
+      patterns = IfOk-from_err c.from_residual.result _ c.from_residual.ensures.0;
+      parameters = IfOk-from_err c.from_residual.result _ c.from_residual.ensures.0;
+      texts = IfOk-from_err c.from_residual.result _ c.from_residual.ensures.0;
     }
 
-pub returns-in-err-read-modules : goal.returns-in-err-read-modules
-returns-in-err-read-modules c =
+pub returns-in_err-read_modules : goal.returns-in_err-read_modules
+returns-in_err-read_modules c =
     let t = begin tree_parts c.args.cursor.now in
-    let t = through _ _ t c.read-head.ensures.reads _ c.in-ok-counts.was in
+    let t = through _ _ t c.read_head.ensures.reads _ c.in_ok-counts.was in
     record {
-      reads = stopped _ _ t c.read-modules.ensures.reads parts_of_tree (tree_at c.read-modules.new.rows c.args.names.now c.args.recipes.now c.args.patterns.now) c.in-err-read-modules.was c.from-residual-in-err-read-modules.ensures.1;
-      modules = IfOk-from_err c.from-residual-in-err-read-modules.result _ c.from-residual-in-err-read-modules.ensures.0;
-      names = IfOk-from_err c.from-residual-in-err-read-modules.result _ c.from-residual-in-err-read-modules.ensures.0;
-      recipes = IfOk-from_err c.from-residual-in-err-read-modules.result _ c.from-residual-in-err-read-modules.ensures.0;
-      patterns = IfOk-from_err c.from-residual-in-err-read-modules.result _ c.from-residual-in-err-read-modules.ensures.0;
-      parameters = IfOk-from_err c.from-residual-in-err-read-modules.result _ c.from-residual-in-err-read-modules.ensures.0;
-      texts = IfOk-from_err c.from-residual-in-err-read-modules.result _ c.from-residual-in-err-read-modules.ensures.0;
+      reads = stopped _ _ t c.read_modules.ensures.reads parts_of_tree (tree_at c.read_modules.new.rows c.args.names.now c.args.recipes.now c.args.patterns.now) c.in_err-read_modules.was c.from_residual-in_err-read_modules.ensures.1;
+      modules = IfOk-from_err c.from_residual-in_err-read_modules.result _ c.from_residual-in_err-read_modules.ensures.0;
+      names = IfOk-from_err c.from_residual-in_err-read_modules.result _ c.from_residual-in_err-read_modules.ensures.0;
+      recipes = IfOk-from_err c.from_residual-in_err-read_modules.result _ c.from_residual-in_err-read_modules.ensures.0;
+      patterns = IfOk-from_err c.from_residual-in_err-read_modules.result _ c.from_residual-in_err-read_modules.ensures.0;
+      parameters = IfOk-from_err c.from_residual-in_err-read_modules.result _ c.from_residual-in_err-read_modules.ensures.0;
+      texts = IfOk-from_err c.from_residual-in_err-read_modules.result _ c.from_residual-in_err-read_modules.ensures.0;
     }
 
-pub returns-in-err-read-names : goal.returns-in-err-read-names
-returns-in-err-read-names c =
+pub returns-in_err-read_names : goal.returns-in_err-read_names
+returns-in_err-read_names c =
     let t = begin tree_parts c.args.cursor.now in
-    let t = through _ _ t c.read-head.ensures.reads _ c.in-ok-counts.was in
-    let t = through _ _ t c.read-modules.ensures.reads _ c.in-ok-read-modules.was in
+    let t = through _ _ t c.read_head.ensures.reads _ c.in_ok-counts.was in
+    let t = through _ _ t c.read_modules.ensures.reads _ c.in_ok-read_modules.was in
     record {
-      reads = stopped _ _ t c.read-names.ensures.reads parts_of_tree (tree_at c.read-modules.new.rows c.read-names.new.rows c.args.recipes.now c.args.patterns.now) c.in-err-read-names.was c.from-residual-in-err-read-names.ensures.1;
-      modules = IfOk-from_err c.from-residual-in-err-read-names.result _ c.from-residual-in-err-read-names.ensures.0;
-      names = IfOk-from_err c.from-residual-in-err-read-names.result _ c.from-residual-in-err-read-names.ensures.0;
-      recipes = IfOk-from_err c.from-residual-in-err-read-names.result _ c.from-residual-in-err-read-names.ensures.0;
-      patterns = IfOk-from_err c.from-residual-in-err-read-names.result _ c.from-residual-in-err-read-names.ensures.0;
-      parameters = IfOk-from_err c.from-residual-in-err-read-names.result _ c.from-residual-in-err-read-names.ensures.0;
-      texts = IfOk-from_err c.from-residual-in-err-read-names.result _ c.from-residual-in-err-read-names.ensures.0;
+      reads = stopped _ _ t c.read_names.ensures.reads parts_of_tree (tree_at c.read_modules.new.rows c.read_names.new.rows c.args.recipes.now c.args.patterns.now) c.in_err-read_names.was c.from_residual-in_err-read_names.ensures.1;
+      modules = IfOk-from_err c.from_residual-in_err-read_names.result _ c.from_residual-in_err-read_names.ensures.0;
+      names = IfOk-from_err c.from_residual-in_err-read_names.result _ c.from_residual-in_err-read_names.ensures.0;
+      recipes = IfOk-from_err c.from_residual-in_err-read_names.result _ c.from_residual-in_err-read_names.ensures.0;
+      patterns = IfOk-from_err c.from_residual-in_err-read_names.result _ c.from_residual-in_err-read_names.ensures.0;
+      parameters = IfOk-from_err c.from_residual-in_err-read_names.result _ c.from_residual-in_err-read_names.ensures.0;
+      texts = IfOk-from_err c.from_residual-in_err-read_names.result _ c.from_residual-in_err-read_names.ensures.0;
     }
 
-pub returns-in-err-read-recipes : goal.returns-in-err-read-recipes
-returns-in-err-read-recipes c =
+pub returns-in_err-read_recipes : goal.returns-in_err-read_recipes
+returns-in_err-read_recipes c =
     let t = begin tree_parts c.args.cursor.now in
-    let t = through _ _ t c.read-head.ensures.reads _ c.in-ok-counts.was in
-    let t = through _ _ t c.read-modules.ensures.reads _ c.in-ok-read-modules.was in
-    let t = through _ _ t c.read-names.ensures.reads _ c.in-ok-read-names.was in
+    let t = through _ _ t c.read_head.ensures.reads _ c.in_ok-counts.was in
+    let t = through _ _ t c.read_modules.ensures.reads _ c.in_ok-read_modules.was in
+    let t = through _ _ t c.read_names.ensures.reads _ c.in_ok-read_names.was in
     record {
-      reads = stopped _ _ t c.read-recipes.ensures.reads parts_of_tree (tree_at c.read-modules.new.rows c.read-names.new.rows c.read-recipes.new.rows c.args.patterns.now) c.in-err-read-recipes.was c.from-residual-in-err-read-recipes.ensures.1;
-      modules = IfOk-from_err c.from-residual-in-err-read-recipes.result _ c.from-residual-in-err-read-recipes.ensures.0;
-      names = IfOk-from_err c.from-residual-in-err-read-recipes.result _ c.from-residual-in-err-read-recipes.ensures.0;
-      recipes = IfOk-from_err c.from-residual-in-err-read-recipes.result _ c.from-residual-in-err-read-recipes.ensures.0;
-      patterns = IfOk-from_err c.from-residual-in-err-read-recipes.result _ c.from-residual-in-err-read-recipes.ensures.0;
-      parameters = IfOk-from_err c.from-residual-in-err-read-recipes.result _ c.from-residual-in-err-read-recipes.ensures.0;
-      texts = IfOk-from_err c.from-residual-in-err-read-recipes.result _ c.from-residual-in-err-read-recipes.ensures.0;
+      reads = stopped _ _ t c.read_recipes.ensures.reads parts_of_tree (tree_at c.read_modules.new.rows c.read_names.new.rows c.read_recipes.new.rows c.args.patterns.now) c.in_err-read_recipes.was c.from_residual-in_err-read_recipes.ensures.1;
+      modules = IfOk-from_err c.from_residual-in_err-read_recipes.result _ c.from_residual-in_err-read_recipes.ensures.0;
+      names = IfOk-from_err c.from_residual-in_err-read_recipes.result _ c.from_residual-in_err-read_recipes.ensures.0;
+      recipes = IfOk-from_err c.from_residual-in_err-read_recipes.result _ c.from_residual-in_err-read_recipes.ensures.0;
+      patterns = IfOk-from_err c.from_residual-in_err-read_recipes.result _ c.from_residual-in_err-read_recipes.ensures.0;
+      parameters = IfOk-from_err c.from_residual-in_err-read_recipes.result _ c.from_residual-in_err-read_recipes.ensures.0;
+      texts = IfOk-from_err c.from_residual-in_err-read_recipes.result _ c.from_residual-in_err-read_recipes.ensures.0;
     }
 
-pub returns-in-err-read-patterns : goal.returns-in-err-read-patterns
-returns-in-err-read-patterns c =
+pub returns-in_err-read_patterns : goal.returns-in_err-read_patterns
+returns-in_err-read_patterns c =
     let t = begin tree_parts c.args.cursor.now in
-    let t = through _ _ t c.read-head.ensures.reads _ c.in-ok-counts.was in
-    let t = through _ _ t c.read-modules.ensures.reads _ c.in-ok-read-modules.was in
-    let t = through _ _ t c.read-names.ensures.reads _ c.in-ok-read-names.was in
-    let t = through _ _ t c.read-recipes.ensures.reads _ c.in-ok-read-recipes.was in
+    let t = through _ _ t c.read_head.ensures.reads _ c.in_ok-counts.was in
+    let t = through _ _ t c.read_modules.ensures.reads _ c.in_ok-read_modules.was in
+    let t = through _ _ t c.read_names.ensures.reads _ c.in_ok-read_names.was in
+    let t = through _ _ t c.read_recipes.ensures.reads _ c.in_ok-read_recipes.was in
     record {
-      reads = stopped_last t c.read-patterns.ensures.reads parts_of_tree (tree_at c.read-modules.new.rows c.read-names.new.rows c.read-recipes.new.rows c.read-patterns.new.rows) c.in-err-read-patterns.was c.from-residual-in-err-read-patterns.ensures.1;
-      modules = IfOk-from_err c.from-residual-in-err-read-patterns.result _ c.from-residual-in-err-read-patterns.ensures.0;
-      names = IfOk-from_err c.from-residual-in-err-read-patterns.result _ c.from-residual-in-err-read-patterns.ensures.0;
-      recipes = IfOk-from_err c.from-residual-in-err-read-patterns.result _ c.from-residual-in-err-read-patterns.ensures.0;
-      patterns = IfOk-from_err c.from-residual-in-err-read-patterns.result _ c.from-residual-in-err-read-patterns.ensures.0;
-      parameters = IfOk-from_err c.from-residual-in-err-read-patterns.result _ c.from-residual-in-err-read-patterns.ensures.0;
-      texts = IfOk-from_err c.from-residual-in-err-read-patterns.result _ c.from-residual-in-err-read-patterns.ensures.0;
+      reads = stopped_last t c.read_patterns.ensures.reads parts_of_tree (tree_at c.read_modules.new.rows c.read_names.new.rows c.read_recipes.new.rows c.read_patterns.new.rows) c.in_err-read_patterns.was c.from_residual-in_err-read_patterns.ensures.1;
+      modules = IfOk-from_err c.from_residual-in_err-read_patterns.result _ c.from_residual-in_err-read_patterns.ensures.0;
+      names = IfOk-from_err c.from_residual-in_err-read_patterns.result _ c.from_residual-in_err-read_patterns.ensures.0;
+      recipes = IfOk-from_err c.from_residual-in_err-read_patterns.result _ c.from_residual-in_err-read_patterns.ensures.0;
+      patterns = IfOk-from_err c.from_residual-in_err-read_patterns.result _ c.from_residual-in_err-read_patterns.ensures.0;
+      parameters = IfOk-from_err c.from_residual-in_err-read_patterns.result _ c.from_residual-in_err-read_patterns.ensures.0;
+      texts = IfOk-from_err c.from_residual-in_err-read_patterns.result _ c.from_residual-in_err-read_patterns.ensures.0;
     }
 
 pub returns : goal.returns
 unfolding both
 returns c =
     let t = begin tree_parts c.args.cursor.now in
-    let t = through _ _ t c.read-head.ensures.reads _ c.in-ok-counts.was in
-    let t = through _ _ t c.read-modules.ensures.reads _ c.in-ok-read-modules.was in
-    let t = through _ _ t c.read-names.ensures.reads _ c.in-ok-read-names.was in
-    let t = through _ _ t c.read-recipes.ensures.reads _ c.in-ok-read-recipes.was in
+    let t = through _ _ t c.read_head.ensures.reads _ c.in_ok-counts.was in
+    let t = through _ _ t c.read_modules.ensures.reads _ c.in_ok-read_modules.was in
+    let t = through _ _ t c.read_names.ensures.reads _ c.in_ok-read_names.was in
+    let t = through _ _ t c.read_recipes.ensures.reads _ c.in_ok-read_recipes.was in
     let image = c.args.cursor.now.image.now in
-    let e = tree_is image c.in-ok-counts.counts c.read-modules.ensures.filled c.read-names.ensures.filled c.read-recipes.ensures.filled c.read-patterns.ensures.filled in
+    let e = tree_is image c.in_ok-counts.counts c.read_modules.ensures.filled c.read_names.ensures.filled c.read_recipes.ensures.filled c.read_patterns.ensures.filled in
     record {
-      reads = finished t c.read-patterns.ensures.reads parts_of_tree (tree_at c.read-modules.new.rows c.read-names.new.rows c.read-recipes.new.rows c.read-patterns.new.rows) _ _ c.in-ok-read-patterns.was e;
-      modules = c.read-modules.ensures.filled;
-      names = c.read-names.ensures.filled;
-      recipes = c.read-recipes.ensures.filled;
-      patterns = c.read-patterns.ensures.filled;
-      parameters = c.in-ok-read-recipes.ensures.tidy;
-      texts = c.in-ok-read-patterns.ensures.tidy;
+      reads = finished t c.read_patterns.ensures.reads parts_of_tree (tree_at c.read_modules.new.rows c.read_names.new.rows c.read_recipes.new.rows c.read_patterns.new.rows) _ _ c.in_ok-read_patterns.was e;
+      modules = c.read_modules.ensures.filled;
+      names = c.read_names.ensures.filled;
+      recipes = c.read_recipes.ensures.filled;
+      patterns = c.read_patterns.ensures.filled;
+      parameters = c.in_ok-read_recipes.ensures.tidy;
+      texts = c.in_ok-read_patterns.ensures.tidy;
     }

@@ -11,8 +11,8 @@ loop-b-preserved c =
     let small : get_or bytes i 0 < 256 = search rules in
     let p : c.digit.result < 128 = subst (λ (x : ℕ). x < 128) (sym c.digit.ensures) (digit_ascii (get_or bytes i 0 / 16) (omega arith)) in
     let q : c.digit-in-loop-b.result < 128 = subst (λ (x : ℕ). x < 128) (sym c.digit-in-loop-b.ensures) (digit_ascii (get_or bytes i 0 % 16) (omega arith)) in
-    let one = c.in-ok-push.ensures.bytes ∙ ap (λ l. string_bytes c.loop-b.out ++ l) (c.in-ok-push.ensures.ascii p) in
-    let two = c.in-ok-push-2.ensures.bytes ∙ ap (λ l. string_bytes c.push.new.self ++ l) (c.in-ok-push-2.ensures.ascii q) in
+    let one = c.in_ok-push.ensures.bytes ∙ ap (λ l. string_bytes c.loop-b.out ++ l) (c.in_ok-push.ensures.ascii p) in
+    let two = c.in_ok-push-2.ensures.bytes ∙ ap (λ l. string_bytes c.push.new.self ++ l) (c.in_ok-push-2.ensures.ascii q) in
     hex_more (string_bytes c.args.out.now) (string_bytes c.loop-b.out) (string_bytes c.push.new.self) (string_bytes c.push-in-loop-b.new.self) bytes i c.digit.result c.digit-in-loop-b.result c.loop-b-test.true c.digit.ensures c.digit-in-loop-b.ensures c.loop-b.invariant one two
 
 pub returns : goal.returns

@@ -10,11 +10,11 @@ loop-at-init c = (omega arith, subst (Spells []) (sym c.new-bytes.ensures.items)
 pub returns-then-at-hex : goal.returns-then-at-hex
 returns-then-at-hex c = odd c.args.hex.now c.loop-at.at (vec_items c.loop-at.bytes) c.loop-at-test.true c.loop-at.invariant.1 c.if-at-hex.true
 
-pub returns-in-default : goal.returns-in-default
-returns-in-default c = not_high c.args.hex.now c.loop-at.at (vec_items c.loop-at.bytes) c.loop-at-test.true c.loop-at.invariant.1 (sym c.in-default.ensures)
+pub returns-in_default : goal.returns-in_default
+returns-in_default c = not_high c.args.hex.now c.loop-at.at (vec_items c.loop-at.bytes) c.loop-at-test.true c.loop-at.invariant.1 (sym c.in_default.ensures)
 
-pub returns-in-default-value : goal.returns-in-default-value
-returns-in-default-value c = not_low c.args.hex.now c.loop-at.at (vec_items c.loop-at.bytes) c.loop-at-test.true c.loop-at.invariant.1 c.if-at-hex.false (sym c.in-default-value.ensures)
+pub returns-in_default-value : goal.returns-in_default-value
+returns-in_default-value c = not_low c.args.hex.now c.loop-at.at (vec_items c.loop-at.bytes) c.loop-at-test.true c.loop-at.invariant.1 c.if-at-hex.false (sym c.in_default-value.ensures)
 
 pub loop-at-preserved : goal.loop-at-preserved
 loop-at-preserved c =
@@ -22,7 +22,7 @@ loop-at-preserved c =
     let t = c.loop-at-test.true in
     let n = c.if-at-hex.false in (
       omega arith,
-      subst (Spells (take (c.loop-at.at + 2) c.args.hex.now)) (sym c.in-default-push.ensures.items)
+      subst (Spells (take (c.loop-at.at + 2) c.args.hex.now)) (sym c.in_default-push.ensures.items)
           (one_byte c.args.hex.now c.loop-at.at (vec_items c.loop-at.bytes) t c.loop-at.invariant.1 c.in-Some.high c.in-Some-value.low n (sym c.in-Some.ensures) (sym c.in-Some-value.ensures)),
     )
 

@@ -4,17 +4,17 @@ use Rattle.text.specs.Pieces.{opens, piece_length}
 use Rattle.text.proofs.Splits.{cut_here, cut_more}
 use Rattle.text.proofs.pieces.piece_length.Goals as goal
 
-pub returns-then-starts-piece : goal.returns-then-starts-piece
-returns-then-starts-piece c =
+pub returns-then-starts_piece : goal.returns-then-starts_piece
+returns-then-starts_piece c =
     let w = c.args.word.now in let i = c.loop-at.at in
-    let o : opens (drop i w) ≡ true = ap opens (sym (take_rest w i)) ∙ sym c.if-starts-piece.ensures in
+    let o : opens (drop i w) ≡ true = ap opens (sym (take_rest w i)) ∙ sym c.if-starts_piece.ensures in
     let e = cut_here w i c.loop-at-test.true o in
     record { value = omega arith; within = omega arith }
 
 pub loop-at-preserved : goal.loop-at-preserved
 loop-at-preserved c =
     let w = c.args.word.now in let i = c.loop-at.at in
-    let o : opens (drop i w) ≡ false = ap opens (sym (take_rest w i)) ∙ sym c.if-starts-piece.ensures in
+    let o : opens (drop i w) ≡ false = ap opens (sym (take_rest w i)) ∙ sym c.if-starts_piece.ensures in
     let e = cut_more w i c.loop-at-test.true o in
     (omega arith, omega arith)
 

@@ -11,24 +11,24 @@ use Rattle.whole.proofs.derive.derive_names.Goals as goal
 few : (rows filled : List RecipeRow) (count : ℕ) → length rows ≡ 64 → filled ≡ take count rows → length filled ≤ 64
 few rows filled count all is = omega (arith, ap length is ∙ length-take count rows)
 
-pub list-all-long-requires : goal.list-all-long-requires
-list-all-long-requires c =
+pub list_all-long-requires : goal.list_all-long-requires
+list_all-long-requires c =
     let h = few c.args.recipes.now c.front-filled.result.now c.args.count c.told-recipes c.front-filled.ensures in
     record { few = h; room = omega arith }
 
-pub list-all-letter-requires : goal.list-all-letter-requires
-list-all-letter-requires c =
+pub list_all-letter-requires : goal.list_all-letter-requires
+list_all-letter-requires c =
     let h = few c.args.recipes.now c.front-filled.result.now c.args.count c.told-recipes c.front-filled.ensures in
     record { few = h; room = omega arith }
 
 pub returns : goal.returns
 returns c =
     let image = c.args.image.now in let longs = c.args.longs.now in let letters = c.args.letters.now in
-    let longs' = c.list-all-long.new.rows in let letters' = c.list-all-letter.new.rows in
+    let longs' = c.list_all-long.new.rows in let letters' = c.list_all-letter.new.rows in
     record {
       answer =
           subst (λ r. NamesDerived image (map (recipe_at image) (take c.args.count c.args.recipes.now)) longs letters r longs' letters') (sym c.join.ensures)
-          (subst (λ rs. NamesDerived image (map (recipe_at image) rs) longs letters (joined c.list-all-long.result c.list-all-letter.result) longs' letters') c.front-filled.ensures
-          (answered (map (recipe_at image) c.front-filled.result.now) image longs longs' letters letters' c.list-all-long.auto.rows c.list-all-letter.auto.rows c.list-all-long.result c.list-all-letter.result c.list-all-long.ensures c.list-all-letter.ensures));
-      long = (c.list-all-long.auto.rows ∙ c.told-longs, c.list-all-letter.auto.rows ∙ c.told-letters);
+          (subst (λ rs. NamesDerived image (map (recipe_at image) rs) longs letters (joined c.list_all-long.result c.list_all-letter.result) longs' letters') c.front-filled.ensures
+          (answered (map (recipe_at image) c.front-filled.result.now) image longs longs' letters letters' c.list_all-long.auto.rows c.list_all-letter.auto.rows c.list_all-long.result c.list_all-letter.result c.list_all-long.ensures c.list_all-letter.ensures));
+      long = (c.list_all-long.auto.rows ∙ c.told-longs, c.list_all-letter.auto.rows ∙ c.told-letters);
     }

@@ -7,8 +7,8 @@ use Rattle.whole.proofs.derive.list_all.Goals as goal
 pub loop-number-init : goal.loop-number-init
 loop-number-init g c = gone_none (g.T.Listing.said c.args.image.now) g.T.Listing.name (map (recipe_at c.args.image.now) c.args.recipes.now) c.args.rows.now
 
-pub list-recipe-requires : goal.list-recipe-requires
-list-recipe-requires g c =
+pub list_recipe-requires : goal.list_recipe-requires
+list_recipe-requires g c =
     let f = recipe_at c.args.image.now in let rs = c.args.recipes.now in
     record {
       room = omega (arith, c.loop-number.invariant.most, c.loop-number.invariant.long, c.requires.room);
@@ -26,7 +26,7 @@ pub loop-number-preserved : goal.loop-number-preserved
 loop-number-preserved g c =
     let f = recipe_at c.args.image.now in let rs = c.args.recipes.now in let n = c.loop-number.number in
     gone_more (g.T.Listing.said c.args.image.now) g.T.Listing.name (map f rs) c.args.rows.now n c.loop-number.filled c.loop-number.rows c.loop-number.invariant
-    (f (get_or rs n _)) (omega (arith, length-map rs f)) (get_or-map f rs n _ _ c.loop-number-test.true) c.in-Some.more c.list-recipe.new.rows c.list-recipe.auto.rows c.in-Some.ensures
+    (f (get_or rs n _)) (omega (arith, length-map rs f)) (get_or-map f rs n _ _ c.loop-number-test.true) c.in-Some.more c.list_recipe.new.rows c.list_recipe.auto.rows c.in-Some.ensures
 
 pub returns : goal.returns
 returns g c =

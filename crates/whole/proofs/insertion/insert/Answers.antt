@@ -6,8 +6,8 @@ use Rattle.whole.specs.Inserted.{Between}
 use Rattle.whole.proofs.Placing.{turned_inserted}
 use Rattle.whole.proofs.insertion.insert.Goals as goal
 
-pub place-for-requires : goal.place-for-requires
-place-for-requires g c =
+pub place_for-requires : goal.place_for-requires
+place_for-requires g c =
     let e : c.args.filled - 0 ≡ c.args.filled = omega arith in
     subst (λ n. Ascending (key_by (g.T.Listing.said c.args.image.now)) (take n c.args.rows.now)) (sym e) c.requires.ascending
 
@@ -18,4 +18,4 @@ returns g c =
     let e : n - 0 ≡ n = omega arith in
     let b : Between key (take n xs) c.args.row p = subst (λ k. Between key (take k xs) c.args.row p) e c.in-Some.ensures in
     let w : p ≤ n = omega (arith, b.within, length-take-le n xs (omega arith)) in
-    turned_inserted xs n p c.args.row c.requires.room w c.rotate-right.new.self c.rotate-right.ensures.after key c.requires.ascending b
+    turned_inserted xs n p c.args.row c.requires.room w c.rotate_right.new.self c.rotate_right.ensures.after key c.requires.ascending b

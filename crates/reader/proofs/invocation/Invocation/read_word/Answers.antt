@@ -10,14 +10,14 @@ returns-in-Some g c =
     let ps = (g.R.Register.signatures c.args.register.now).parameters c.args.recipe in
     let k = c.in-Some.ensures in
     record {
-      next = λ roles. step_for ps (state_of ps c.args.bytes.now c.args.self.now roles) (text_at c.args.bytes.now c.args.span) _ _ k.1 (c.value-word.ensures.next ps k.0 c.args.bytes.now roles k.2);
-      grows = grows_more _ _ _ _ c.value-word.result (omega arith) c.value-word.ensures.grows;
+      next = λ roles. step_for ps (state_of ps c.args.bytes.now c.args.self.now roles) (text_at c.args.bytes.now c.args.span) _ _ k.1 (c.value_word.ensures.next ps k.0 c.args.bytes.now roles k.2);
+      grows = grows_more _ _ _ _ c.value_word.result (omega arith) c.value_word.ensures.grows;
     }
 
 pub returns-in-None : goal.returns-in-None
 returns-in-None g c =
     let ps = (g.R.Register.signatures c.args.register.now).parameters c.args.recipe in
     record {
-      next = λ roles. step_for ps (state_of ps c.args.bytes.now c.args.self.now roles) (text_at c.args.bytes.now c.args.span) Nobody _ c.in-None.ensures (c.free-word.ensures.next roles);
-      grows = c.free-word.ensures.grows;
+      next = λ roles. step_for ps (state_of ps c.args.bytes.now c.args.self.now roles) (text_at c.args.bytes.now c.args.span) Nobody _ c.in-None.ensures (c.free_word.ensures.next roles);
+      grows = c.free_word.ensures.grows;
     }

@@ -13,35 +13,35 @@ use Rattle.reader.proofs.invocation.Invocation.read_words.Goals as goal
 abbrev nowhere : Span
 nowhere = record { start = 0; len = 0 }
 
-pub read-word-requires : goal.read-word-requires
-read-word-requires g c =
+pub read_word-requires : goal.read_word-requires
+read_word-requires g c =
     let ps = (g.R.Register.signatures c.args.register.now).parameters c.args.recipe in
     let bytes = c.args.bytes.now in let words = c.args.words.now in let i = c.loop-i.i in
     let q = room_at bytes words i nowhere c.loop-i-test.true in
     record { words = omega arith; room = omega arith }
 
-pub returns-in-err-role : goal.returns-in-err-role
-returns-in-err-role g c =
+pub returns-in_err-role : goal.returns-in_err-role
+returns-in_err-role g c =
     let ps = (g.R.Register.signatures c.args.register.now).parameters c.args.recipe in
     let bytes = c.args.bytes.now in let words = c.args.words.now in let i = c.loop-i.i in
-    let p = err_from_is_err_and c.from-residual.result c.from-residual.ensures.1 in
+    let p = err_from_is_err_and c.from_residual.result c.from_residual.ensures.1 in
     record {
       scans =
-          ap (λ r. scanned_of ps bytes words r c.read-word.new.self c.loop-i.roles) (p.1 ∙ ap Err p.2)
-          ∙ turn_off ps bytes words i nowhere c.loop-i.self c.read-word.new.self (held_roles c.loop-i.roles) c.read-word.result c.loop-i-test.true (c.read-word.ensures.next (held_roles c.loop-i.roles)) _ c.in-err-role.was
+          ap (λ r. scanned_of ps bytes words r c.read_word.new.self c.loop-i.roles) (p.1 ∙ ap Err p.2)
+          ∙ turn_off ps bytes words i nowhere c.loop-i.self c.read_word.new.self (held_roles c.loop-i.roles) c.read_word.result c.loop-i-test.true (c.read_word.ensures.next (held_roles c.loop-i.roles)) _ c.in_err-role.was
           ∙ c.loop-i.invariant.3;
-      takes = IfOk-from_err c.from-residual.result _ c.from-residual.ensures.0;
+      takes = IfOk-from_err c.from_residual.result _ c.from_residual.ensures.0;
     }
 
-pub returns-in-default : goal.returns-in-default
-returns-in-default g c =
+pub returns-in_default : goal.returns-in_default
+returns-in_default g c =
     let ps = (g.R.Register.signatures c.args.register.now).parameters c.args.recipe in
     let bytes = c.args.bytes.now in let words = c.args.words.now in let i = c.loop-i.i in
-    let e = c.in-ok-role.was ∙ ap Ok c.in-default.is in
-    let same = subst (GrowsBy _ _ _) e c.read-word.ensures.grows.by in
+    let e = c.in_ok-role.was ∙ ap Ok c.in_default.is in
+    let same = subst (GrowsBy _ _ _) e c.read_word.ensures.grows.by in
     record {
       scans =
-          turn_stop ps bytes words i nowhere c.loop-i.self c.read-word.new.self (held_roles c.loop-i.roles) c.read-word.result c.loop-i-test.true (c.read-word.ensures.next (held_roles c.loop-i.roles)) e same
+          turn_stop ps bytes words i nowhere c.loop-i.self c.read_word.new.self (held_roles c.loop-i.roles) c.read_word.result c.loop-i-test.true (c.read_word.ensures.next (held_roles c.loop-i.roles)) e same
           ∙ c.loop-i.invariant.3;
       takes = (omega arith, ap (λ x. x.words) same ∙ c.loop-i.invariant.0);
     }
@@ -51,13 +51,13 @@ loop-i-preserved g c =
     let ps = (g.R.Register.signatures c.args.register.now).parameters c.args.recipe in
     let bytes = c.args.bytes.now in let words = c.args.words.now in let i = c.loop-i.i in
     let q = room_at bytes words i nowhere c.loop-i-test.true in
-    let e = c.in-ok-role.was ∙ ap Ok c.in-Some.is in
-    let by = subst (GrowsBy _ _ _) e c.read-word.ensures.grows.by in
+    let e = c.in_ok-role.was ∙ ap Ok c.in-Some.is in
+    let by = subst (GrowsBy _ _ _) e c.read_word.ensures.grows.by in
     let a = by.0 in let b = by.1 in (
       omega arith,
       omega arith,
       omega (arith, c.push.ensures.fill),
-      turn_on ps bytes words i nowhere c.loop-i.self c.read-word.new.self (held_roles c.loop-i.roles) c.read-word.result c.loop-i-test.true (c.read-word.ensures.next (held_roles c.loop-i.roles)) _ _ e c.push.ensures.held
+      turn_on ps bytes words i nowhere c.loop-i.self c.read_word.new.self (held_roles c.loop-i.roles) c.read_word.result c.loop-i-test.true (c.read_word.ensures.next (held_roles c.loop-i.roles)) _ _ e c.push.ensures.held
           ∙ c.loop-i.invariant.3,
     )
 

@@ -15,8 +15,8 @@ use Rattle.reader.proofs.Telling.{refuses_in, fits, up_to}
 use Rattle.reader.proofs.LineSteps.{turn_told, turn_fails}
 use Rattle.reader.proofs.invocation_parser.InvocationParser.parse_next.Goals as goal
 
-pub parse-invocation-requires : goal.parse-invocation-requires
-parse-invocation-requires g c =
+pub parse_invocation-requires : goal.parse_invocation-requires
+parse_invocation-requires g c =
     let bytes = c.args.bytes.now in let words = c.args.words.now in let first = c.args.first in
     let part = take_rest words first in
     let l = ap length part ∙ length-drop first words in
@@ -33,10 +33,10 @@ take-requires g c =
     let most = e.within.1 in let least = e.within.2 in let n = c.words-count.ensures in
     let takes = (lawful_takes names (texts_at bytes slice) path e.within.0).most in let many = length-map slice (text_at bytes) in
     let ordered = e.ordered (Ok path) e.within.0 in
-    (bytes, (c.requires.begun.0, c.requires.begun.1, fits s accepts bytes words slice first path c.parse-invocation.new.self c.words-count.result c.rows.result.now c.values.result.now part n c.rows.ensures c.values.ensures (omega arith) (omega arith) ordered c.requires.begun.0 c.requires.begun.2 c.requires.few c.requires.start c.requires.early))
+    (bytes, (c.requires.begun.0, c.requires.begun.1, fits s accepts bytes words slice first path c.parse_invocation.new.self c.words-count.result c.rows.result.now c.values.result.now part n c.rows.ensures c.values.ensures (omega arith) (omega arith) ordered c.requires.begun.0 c.requires.begun.2 c.requires.few c.requires.start c.requires.early))
 
-pub returns-in-ok-take : goal.returns-in-ok-take
-returns-in-ok-take g c =
+pub returns-in_ok-take : goal.returns-in_ok-take
+returns-in_ok-take g c =
     let s = g.R.Register.signatures c.args.register.now in let names = g.R.Register.names c.args.register.now in let accepts = g.J.Judge.accepts c.args.judge.now in
     let bytes = c.args.bytes.now in let words = c.args.words.now in let first = c.args.first in
     let slice = take (length words - first) (drop first words) in let part = take_rest words first in
@@ -45,25 +45,25 @@ returns-in-ok-take g c =
     let takes = (lawful_takes names (texts_at bytes slice) path e.within.0).most in let many = length-map slice (text_at bytes) in
     let ordered = e.ordered (Ok path) e.within.0 in
     let l = ap length part ∙ length-drop first words in
-    let took = subst (Took g.T.Taker.refuses (g.T.Taker.told c.args.taker.now) (g.T.Taker.told c.take.new.self) _) c.in-ok-take.was c.take.ensures in (
+    let took = subst (Took g.T.Taker.refuses (g.T.Taker.told c.args.taker.now) (g.T.Taker.told c.take.new.self) _) c.in_ok-take.was c.take.ensures in (
       _,
       took bytes,
       λ os. record {
         within = omega arith;
         further = λ h. let k = least (omega arith) in omega arith;
-        fits = λ up. fits s accepts bytes words slice first path c.parse-invocation.new.self c.words-count.result c.rows.result.now c.values.result.now part n c.rows.ensures c.values.ensures (omega arith) (omega arith) ordered os up c.requires.few c.requires.start c.requires.early;
-        up_to = λ up h. up_to s accepts bytes words slice first path c.parse-invocation.new.self c.words-count.result c.rows.result.now c.values.result.now part n c.rows.ensures c.values.ensures (omega arith) (omega arith) ordered os up (let k = least (omega arith) in omega arith);
-        left = λ walk walks. turn_told names s accepts walk walks bytes words slice first os path c.parse-invocation.new.self c.words-count.result c.rows.result.now c.values.result.now part n c.rows.ensures c.values.ensures e.within.0 (e.ordered (walk (texts_at bytes slice)) (walks (texts_at bytes slice)));
+        fits = λ up. fits s accepts bytes words slice first path c.parse_invocation.new.self c.words-count.result c.rows.result.now c.values.result.now part n c.rows.ensures c.values.ensures (omega arith) (omega arith) ordered os up c.requires.few c.requires.start c.requires.early;
+        up_to = λ up h. up_to s accepts bytes words slice first path c.parse_invocation.new.self c.words-count.result c.rows.result.now c.values.result.now part n c.rows.ensures c.values.ensures (omega arith) (omega arith) ordered os up (let k = least (omega arith) in omega arith);
+        left = λ walk walks. turn_told names s accepts walk walks bytes words slice first os path c.parse_invocation.new.self c.words-count.result c.rows.result.now c.values.result.now part n c.rows.ensures c.values.ensures e.within.0 (e.ordered (walk (texts_at bytes slice)) (walks (texts_at bytes slice)));
       },
     )
 
-pub returns-in-err-take : goal.returns-in-err-take
-returns-in-err-take g c =
+pub returns-in_err-take : goal.returns-in_err-take
+returns-in_err-take g c =
     let s = g.R.Register.signatures c.args.register.now in let names = g.R.Register.names c.args.register.now in let accepts = g.J.Judge.accepts c.args.judge.now in
     let bytes = c.args.bytes.now in let words = c.args.words.now in let first = c.args.first in
     let slice = take (length words - first) (drop first words) in let part = take_rest words first in
-    let p = err_from_is_err_and c.from-residual.result c.from-residual.ensures.1 in
-    let refused = subst (Took g.T.Taker.refuses (g.T.Taker.told c.args.taker.now) (g.T.Taker.told c.take.new.self) _) c.in-err-take.was c.take.ensures in
+    let p = err_from_is_err_and c.from_residual.result c.from_residual.ensures.1 in
+    let refused = subst (Took g.T.Taker.refuses (g.T.Taker.told c.args.taker.now) (g.T.Taker.told c.take.new.self) _) c.in_err-take.was c.take.ensures in
     subst (NextTold names s accepts g.T.Taker.refuses (g.T.Taker.told c.args.taker.now) (g.T.Taker.told c.take.new.self) bytes words first) (sym (p.1 ∙ ap Err p.2)) (inl refused)
 
 pub returns-in-Err : goal.returns-in-Err

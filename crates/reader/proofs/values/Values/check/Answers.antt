@@ -9,29 +9,29 @@ use Rattle.reader.proofs.Places.{there, gone}
 use Rattle.reader.proofs.Counting.{first_pass, first_hit, option_missing, no_option, option_there, missing_hit, missing_pass}
 use Rattle.reader.proofs.values.Values.check.Goals as goal
 
-pub returns-in-err-check-options : goal.returns-in-err-check-options
-returns-in-err-check-options g c =
+pub returns-in_err-check_options : goal.returns-in_err-check_options
+returns-in_err-check_options g c =
     let ps = (g.R.Register.signatures c.args.register.now).parameters c.args.recipe in
     let bytes = c.args.bytes.now in let vs = values_of bytes c.args.self.now in
     let first = first_of (check_option vs) 0 ps in let second = check_plain vs c.args.found ps in let third = first_of (check_sound (g.J.Judge.accepts c.args.judge.now) vs) 0 ps in
-    let p = err_from_is_err_and c.from-residual.result c.from-residual.ensures.1 in
-    ap fault_of (p.1 ∙ ap Err p.2) ∙ sym (ap (λ (o : Option Refusal). else! o (else! second third)) (sym (c.check-options.ensures bytes) ∙ ap fault_of c.in-err-check-options.was))
+    let p = err_from_is_err_and c.from_residual.result c.from_residual.ensures.1 in
+    ap fault_of (p.1 ∙ ap Err p.2) ∙ sym (ap (λ (o : Option Refusal). else! o (else! second third)) (sym (c.check_options.ensures bytes) ∙ ap fault_of c.in_err-check_options.was))
 
-pub returns-in-err-check-plain : goal.returns-in-err-check-plain
-returns-in-err-check-plain g c =
+pub returns-in_err-check_plain : goal.returns-in_err-check_plain
+returns-in_err-check_plain g c =
     let ps = (g.R.Register.signatures c.args.register.now).parameters c.args.recipe in
     let bytes = c.args.bytes.now in let vs = values_of bytes c.args.self.now in
     let first = first_of (check_option vs) 0 ps in let second = check_plain vs c.args.found ps in let third = first_of (check_sound (g.J.Judge.accepts c.args.judge.now) vs) 0 ps in
-    let p = err_from_is_err_and c.from-residual-in-err-check-plain.result c.from-residual-in-err-check-plain.ensures.1 in
+    let p = err_from_is_err_and c.from_residual-in_err-check_plain.result c.from_residual-in_err-check_plain.ensures.1 in
     ap fault_of (p.1 ∙ ap Err p.2)
-    ∙ sym (ap (λ (o : Option Refusal). else! o (else! second third)) (sym (c.check-options.ensures bytes) ∙ ap fault_of c.in-ok-check-options.was)
-    ∙ ap (λ (o : Option Refusal). else! o third) (sym (c.check-plain.ensures bytes) ∙ ap fault_of c.in-err-check-plain.was))
+    ∙ sym (ap (λ (o : Option Refusal). else! o (else! second third)) (sym (c.check_options.ensures bytes) ∙ ap fault_of c.in_ok-check_options.was)
+    ∙ ap (λ (o : Option Refusal). else! o third) (sym (c.check_plain.ensures bytes) ∙ ap fault_of c.in_err-check_plain.was))
 
 pub returns : goal.returns
 returns g c =
     let ps = (g.R.Register.signatures c.args.register.now).parameters c.args.recipe in
     let bytes = c.args.bytes.now in let vs = values_of bytes c.args.self.now in
     let first = first_of (check_option vs) 0 ps in let second = check_plain vs c.args.found ps in let third = first_of (check_sound (g.J.Judge.accepts c.args.judge.now) vs) 0 ps in
-    c.check-values.ensures
-    ∙ sym (ap (λ (o : Option Refusal). else! o (else! second third)) (sym (c.check-options.ensures bytes) ∙ ap fault_of c.in-ok-check-options.was)
-    ∙ ap (λ (o : Option Refusal). else! o third) (sym (c.check-plain.ensures bytes) ∙ ap fault_of c.in-ok-check-plain.was))
+    c.check_values.ensures
+    ∙ sym (ap (λ (o : Option Refusal). else! o (else! second third)) (sym (c.check_options.ensures bytes) ∙ ap fault_of c.in_ok-check_options.was)
+    ∙ ap (λ (o : Option Refusal). else! o third) (sym (c.check_plain.ensures bytes) ∙ ap fault_of c.in_ok-check_plain.was))

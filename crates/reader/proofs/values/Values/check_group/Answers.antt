@@ -13,17 +13,17 @@ returns-then-parameter g c = λ m e. unchecked (g.J.Judge.accepts c.args.judge.n
       | then-parameter-via-else-parameter+then-not-has w ↦ and_right _ _ (sym w.has.ensures ∙ w.if-not-has.true)
     ])
 
-pub returns-then-not-at-least : goal.returns-then-not-at-least
-returns-then-not-at-least g c = λ m e. too_few (g.J.Judge.accepts c.args.judge.now) c.args.bytes.now (held c.args.self.now) c.args.place m c.args.parameter e
-    (and_from _ _ (ap not c.if-parameter.false) (sym c.has.ensures ∙ c.if-not-has.false)) c.count-to-found.result (c.count-to-found.ensures ∙ ap (count_to c.args.place) c.rows.ensures)
-    (sym c.at-least.ensures ∙ c.if-not-at-least.true)
+pub returns-then-not-at_least : goal.returns-then-not-at_least
+returns-then-not-at_least g c = λ m e. too_few (g.J.Judge.accepts c.args.judge.now) c.args.bytes.now (held c.args.self.now) c.args.place m c.args.parameter e
+    (and_from _ _ (ap not c.if-parameter.false) (sym c.has.ensures ∙ c.if-not-has.false)) c.count_to-found.result (c.count_to-found.ensures ∙ ap (count_to c.args.place) c.rows.ensures)
+    (sym c.at_least.ensures ∙ c.if-not-at_least.true)
 
-pub returns-then-not-at-most : goal.returns-then-not-at-most
-returns-then-not-at-most g c = λ m e. too_many (g.J.Judge.accepts c.args.judge.now) c.args.bytes.now (held c.args.self.now) c.args.place m c.args.parameter e
-    (and_from _ _ (ap not c.if-parameter.false) (sym c.has.ensures ∙ c.if-not-has.false)) c.count-to-found.result (c.count-to-found.ensures ∙ ap (count_to c.args.place) c.rows.ensures)
-    (sym c.at-least.ensures ∙ c.if-not-at-least.false) (sym c.at-most.ensures ∙ c.if-not-at-most.true)
+pub returns-then-not-at_most : goal.returns-then-not-at_most
+returns-then-not-at_most g c = λ m e. too_many (g.J.Judge.accepts c.args.judge.now) c.args.bytes.now (held c.args.self.now) c.args.place m c.args.parameter e
+    (and_from _ _ (ap not c.if-parameter.false) (sym c.has.ensures ∙ c.if-not-has.false)) c.count_to-found.result (c.count_to-found.ensures ∙ ap (count_to c.args.place) c.rows.ensures)
+    (sym c.at_least.ensures ∙ c.if-not-at_least.false) (sym c.at_most.ensures ∙ c.if-not-at_most.true)
 
 pub returns : goal.returns
 returns g c = λ m e. pattern_left (g.J.Judge.accepts c.args.judge.now) c.args.bytes.now (held c.args.self.now) c.args.place m c.args.parameter e
-    (and_from _ _ (ap not c.if-parameter.false) (sym c.has.ensures ∙ c.if-not-has.false)) c.count-to-found.result (c.count-to-found.ensures ∙ ap (count_to c.args.place) c.rows.ensures)
-    (sym c.at-least.ensures ∙ c.if-not-at-least.false) (sym c.at-most.ensures ∙ c.if-not-at-most.false) _ c.check-pattern.ensures
+    (and_from _ _ (ap not c.if-parameter.false) (sym c.has.ensures ∙ c.if-not-has.false)) c.count_to-found.result (c.count_to-found.ensures ∙ ap (count_to c.args.place) c.rows.ensures)
+    (sym c.at_least.ensures ∙ c.if-not-at_least.false) (sym c.at_most.ensures ∙ c.if-not-at_most.false) _ c.check_pattern.ensures

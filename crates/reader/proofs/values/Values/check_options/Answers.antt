@@ -8,10 +8,10 @@ use Rattle.reader.specs.Counts.{fault_of}
 use Rattle.reader.proofs.Places.{there, gone}
 use Rattle.reader.proofs.Counting.{first_pass, first_hit, option_missing, no_option, option_there, missing_hit, missing_pass}
 use Rattle.reader.proofs.values.Values.check_options.Goals as goal
-use Rattle.reader.proofs.values.Values.check_options.Goals.{else-is-option-via-then-is-option+else-is-missing, else-is-option-via-else-is-option}
+use Rattle.reader.proofs.values.Values.check_options.Goals.{else-is_option-via-then-is_option+else-is_missing, else-is_option-via-else-is_option}
 
-pub overflow-add-place : goal.overflow-add-place
-overflow-add-place g c =
+pub overflow_add-place : goal.overflow_add-place
+overflow_add-place g c =
     let ps = (g.R.Register.signatures c.args.register.now).parameters c.args.recipe in
     let few = g.R.Register.few c.args.register.now c.args.recipe in
     let t = there ps c.loop-parameter.place c.in-Some.parameter c.in-Some.ensures in let within = t.within in
@@ -24,12 +24,12 @@ loop-parameter-smaller g c =
     let t = there ps c.loop-parameter.place c.in-Some.parameter c.in-Some.ensures in let within = t.within in
     omega arith
 
-pub returns-then-is-missing : goal.returns-then-is-missing
-returns-then-is-missing g c =
+pub returns-then-is_missing : goal.returns-then-is_missing
+returns-then-is_missing g c =
     let ps = (g.R.Register.signatures c.args.register.now).parameters c.args.recipe in
     let few = g.R.Register.few c.args.register.now c.args.recipe in
     let t = there ps c.loop-parameter.place c.in-Some.parameter c.in-Some.ensures in let within = t.within in
-    λ bytes. first_hit ps c.loop-parameter.place c.in-Some.parameter t (check_option (values_of bytes c.args.self.now)) _ (option_missing ps c.loop-parameter.place c.in-Some.parameter t bytes (held c.args.self.now) (sym c.is-option.ensures ∙ c.if-is-option.true) (sym c.is-missing.ensures ∙ c.if-is-missing.true)) ∙ c.loop-parameter.invariant bytes
+    λ bytes. first_hit ps c.loop-parameter.place c.in-Some.parameter t (check_option (values_of bytes c.args.self.now)) _ (option_missing ps c.loop-parameter.place c.in-Some.parameter t bytes (held c.args.self.now) (sym c.is_option.ensures ∙ c.if-is_option.true) (sym c.is_missing.ensures ∙ c.if-is_missing.true)) ∙ c.loop-parameter.invariant bytes
 
 pub loop-parameter-preserved : goal.loop-parameter-preserved
 loop-parameter-preserved g c =
@@ -37,13 +37,13 @@ loop-parameter-preserved g c =
     let few = g.R.Register.few c.args.register.now c.args.recipe in
     let t = there ps c.loop-parameter.place c.in-Some.parameter c.in-Some.ensures in let within = t.within in
     λ bytes. first_pass ps c.loop-parameter.place c.in-Some.parameter t (check_option (values_of bytes c.args.self.now))
-    (elim c.else-is-option.branch [
-      | else-is-option-via-then-is-option+else-is-missing w ↦ option_there ps c.loop-parameter.place c.in-Some.parameter t bytes (held c.args.self.now) (sym w.is-missing.ensures ∙ w.if-is-missing.false)
-      | else-is-option-via-else-is-option w ↦ no_option ps c.loop-parameter.place c.in-Some.parameter t bytes (held c.args.self.now) (sym c.is-option.ensures ∙ w.if-is-option.false)
+    (elim c.else-is_option.branch [
+      | else-is_option-via-then-is_option+else-is_missing w ↦ option_there ps c.loop-parameter.place c.in-Some.parameter t bytes (held c.args.self.now) (sym w.is_missing.ensures ∙ w.if-is_missing.false)
+      | else-is_option-via-else-is_option w ↦ no_option ps c.loop-parameter.place c.in-Some.parameter t bytes (held c.args.self.now) (sym c.is_option.ensures ∙ w.if-is_option.false)
     ]) ∙ c.loop-parameter.invariant bytes
 
 pub returns : goal.returns
 returns g c =
     let ps = (g.R.Register.signatures c.args.register.now).parameters c.args.recipe in
     let few = g.R.Register.few c.args.register.now c.args.recipe in
-    λ bytes. sym (ap (first_of (check_option (values_of bytes c.args.self.now)) c.loop-parameter.place) (gone ps c.loop-parameter.place c.parameter.result c.in-default.is c.parameter.ensures)) ∙ c.loop-parameter.invariant bytes
+    λ bytes. sym (ap (first_of (check_option (values_of bytes c.args.self.now)) c.loop-parameter.place) (gone ps c.loop-parameter.place c.parameter.result c.in_default.is c.parameter.ensures)) ∙ c.loop-parameter.invariant bytes

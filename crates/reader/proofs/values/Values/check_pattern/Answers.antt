@@ -7,15 +7,15 @@ use Rattle.reader.specs.declared.source.ValueRow.{ValueRow}
 use Rattle.reader.proofs.Counting.{mismatch, no_pattern_lem, pattern_is}
 use Rattle.reader.proofs.values.Values.check_pattern.Goals as goal
 
-pub returns-in-default : goal.returns-in-default
-returns-in-default g c =
+pub returns-in_default : goal.returns-in_default
+returns-in_default g c =
     let accepts = g.J.Judge.accepts c.args.judge.now in let vs = group c.args.place (values_of c.args.bytes.now c.args.self.now) in
-    sym (ap (λ o. check_pattern accepts c.args.place o vs) c.in-default.is ∙ no_pattern_lem accepts c.args.place vs)
+    sym (ap (λ o. check_pattern accepts c.args.place o vs) c.in_default.is ∙ no_pattern_lem accepts c.args.place vs)
 
-pub returns-in-Some-first-rejected : goal.returns-in-Some-first-rejected
-returns-in-Some-first-rejected g c =
+pub returns-in-Some-first_rejected : goal.returns-in-Some-first_rejected
+returns-in-Some-first_rejected g c =
     let accepts = g.J.Judge.accepts c.args.judge.now in let vs = group c.args.place (values_of c.args.bytes.now c.args.self.now) in
-    let e = c.in-Some-first-rejected.ensures ∙ ap (λ (rows : List ValueRow). first_rejected (accepts c.in-Some.pattern) c.args.bytes.now c.args.place rows) c.rows.ensures in
+    let e = c.in-Some-first_rejected.ensures ∙ ap (λ (rows : List ValueRow). first_rejected (accepts c.in-Some.pattern) c.args.bytes.now c.args.place rows) c.rows.ensures in
     ap (mismatch c.args.place) e ∙ pattern_is accepts c.in-Some.pattern c.args.bytes.now c.args.place (held c.args.self.now) ∙ sym (ap (λ o. check_pattern accepts c.args.place o vs) c.in-Some.is)
 
 pub returns-in-None : goal.returns-in-None

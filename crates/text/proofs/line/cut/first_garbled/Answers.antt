@@ -7,8 +7,8 @@ use Rattle.text.specs.Spans.{text_at, texts_at}
 use Rattle.text.specs.Utf8.{Utf8}
 use Rattle.text.proofs.line.cut.first_garbled.Goals as goal
 
-pub returns-then-not-is-utf8 : goal.returns-then-not-is-utf8
-returns-then-not-is-utf8 c =
+pub returns-then-not-is_utf8 : goal.returns-then-not-is_utf8
+returns-then-not-is_utf8 c =
     let bytes = c.args.bytes.now in
     let words = c.args.words.now in
     let i = c.loop-i.i in
@@ -20,7 +20,7 @@ returns-then-not-is-utf8 c =
       ap (texts_at bytes) cut ∙ map-append (text_at bytes) (take i words) (word ∷ drop (i + 1) words),
       length-map (take i words) (text_at bytes) ∙ length-take-le i words c.loop-i.auto.i-end,
       c.loop-i.invariant,
-      λ u. not_from_Decides c.is-utf8.result c.is-utf8.ensures c.if-not-is-utf8.true (subst Utf8 (sym c.text-at.ensures) u),
+      λ u. not_from_Decides c.is_utf8.result c.is_utf8.ensures c.if-not-is_utf8.true (subst Utf8 (sym c.text_at.ensures) u),
     )
 
 pub loop-i-preserved : goal.loop-i-preserved
@@ -30,7 +30,7 @@ loop-i-preserved c =
     let i = c.loop-i.i in
     subst (All Utf8) (sym (map_more (text_at bytes) words i (record { start = 0; len = 0 }) c.loop-i-test.true))
     (All-push Utf8 (texts_at bytes (take i words)) (text_at bytes (get_or words i (record { start = 0; len = 0 }))) c.loop-i.invariant
-    (subst Utf8 c.text-at.ensures (c.is-utf8.ensures.0 c.if-not-is-utf8.false)))
+    (subst Utf8 c.text_at.ensures (c.is_utf8.ensures.0 c.if-not-is_utf8.false)))
 
 pub returns : goal.returns
 returns c =

@@ -11,13 +11,13 @@ blank = record { «module» = 0; kind = 0; text = record { start = 0; len = 0 };
 
 pub returns-then-labelled : goal.returns-then-labelled
 returns-then-labelled c =
-    let s = c.args.self.now in let found = c.in-ok-place.ensures in
-    sym (led_at s.image.now s.names.now c.args.kind c.in-ok-place.place blank true (sym c.if-labelled.ensures) found.within)
+    let s = c.args.self.now in let found = c.in_ok-place.ensures in
+    sym (led_at s.image.now s.names.now c.args.kind c.in_ok-place.place blank true (sym c.if-labelled.ensures) found.within)
     ∙ ap (led_from (map (name_at s.image.now) s.names.now) c.args.kind) found.value
 
 pub returns-else-labelled : goal.returns-else-labelled
 unfolding blank
 returns-else-labelled c =
-    let s = c.args.self.now in let found = c.in-ok-place.ensures in
-    sym (led_at s.image.now s.names.now c.args.kind c.in-ok-place.place blank false (sym c.if-labelled.ensures) found.within)
+    let s = c.args.self.now in let found = c.in_ok-place.ensures in
+    sym (led_at s.image.now s.names.now c.args.kind c.in_ok-place.place blank false (sym c.if-labelled.ensures) found.within)
     ∙ ap (led_from (map (name_at s.image.now) s.names.now) c.args.kind) found.value

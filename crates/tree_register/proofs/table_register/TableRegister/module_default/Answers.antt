@@ -1,6 +1,6 @@
 use Rattle.std.proofs.Common.{sym, ap, ◌∙◌, arith}
 use Rattle.std.specs.Option.{option_map, option_flatten}
-use Rattle.std.proofs.iter.runs.Lists.{slice_get-map}
+use Rattle.std.proofs.lemmas.Option.{slice_get-map}
 use Rattle.std.proofs.lemmas.Option.{slice_get-get_or, slice_get_past}
 use Rattle.tree.specs.Rows.{module_at}
 use Rattle.tree_register.proofs.table_register.TableRegister.module_default.Goals as goal

@@ -35,8 +35,8 @@ take-requires g c =
     let ordered = e.ordered (Ok path) e.within.0 in
     (bytes, (c.requires.begun.0, c.requires.begun.1, fits s accepts bytes words slice first path c.parse_invocation.new.self c.words-count.result c.rows.result.now c.values.result.now part n c.rows.ensures c.values.ensures (omega arith) (omega arith) ordered c.requires.begun.0 c.requires.begun.2 c.requires.few c.requires.start c.requires.early))
 
-pub returns-in_ok-take : goal.returns-in_ok-take
-returns-in_ok-take g c =
+pub returns-in_ok-take-in-Ok : goal.returns-in_ok-take-in-Ok
+returns-in_ok-take-in-Ok g c =
     let s = g.R.Register.signatures c.args.register.now in let names = g.R.Register.names c.args.register.now in let accepts = g.J.Judge.accepts c.args.judge.now in
     let bytes = c.args.bytes.now in let words = c.args.words.now in let first = c.args.first in
     let slice = take (length words - first) (drop first words) in let part = take_rest words first in
@@ -45,7 +45,7 @@ returns-in_ok-take g c =
     let takes = (lawful_takes names (texts_at bytes slice) path e.within.0).most in let many = length-map slice (text_at bytes) in
     let ordered = e.ordered (Ok path) e.within.0 in
     let l = ap length part ∙ length-drop first words in
-    let took = subst (Took g.T.Taker.refuses (g.T.Taker.told c.args.taker.now) (g.T.Taker.told c.take.new.self) _) c.in_ok-take.was c.take.ensures in (
+    let took = subst (Took g.T.Taker.refuses (g.T.Taker.told c.args.taker.now) (g.T.Taker.told c.take.new.self) _) c.in_ok-take-in-Ok.was c.take.ensures in (
       _,
       took bytes,
       λ os. record {
@@ -57,13 +57,13 @@ returns-in_ok-take g c =
       },
     )
 
-pub returns-in_err-take : goal.returns-in_err-take
-returns-in_err-take g c =
+pub returns-in_err-take-in-Ok : goal.returns-in_err-take-in-Ok
+returns-in_err-take-in-Ok g c =
     let s = g.R.Register.signatures c.args.register.now in let names = g.R.Register.names c.args.register.now in let accepts = g.J.Judge.accepts c.args.judge.now in
     let bytes = c.args.bytes.now in let words = c.args.words.now in let first = c.args.first in
     let slice = take (length words - first) (drop first words) in let part = take_rest words first in
     let p = err_from_is_err_and c.from_residual.result c.from_residual.ensures.1 in
-    let refused = subst (Took g.T.Taker.refuses (g.T.Taker.told c.args.taker.now) (g.T.Taker.told c.take.new.self) _) c.in_err-take.was c.take.ensures in
+    let refused = subst (Took g.T.Taker.refuses (g.T.Taker.told c.args.taker.now) (g.T.Taker.told c.take.new.self) _) c.in_err-take-in-Ok.was c.take.ensures in
     subst (NextTold names s accepts g.T.Taker.refuses (g.T.Taker.told c.args.taker.now) (g.T.Taker.told c.take.new.self) bytes words first) (sym (p.1 ∙ ap Err p.2)) (inl refused)
 
 pub returns-in-Err : goal.returns-in-Err

@@ -19,7 +19,7 @@ use Rattle.console.specs.declared.console.Console.{Console}
 use Rattle.console.specs.declared.console.slip.Slip.{Slip}
 use Rattle.console.specs.declared.admitted.Admitted.{Admitted}
 use Rattle.console.specs.declared.issued.Issued.{Issued}
-use Rattle.console.proofs.Waiting.{row_kept}
+use Rattle.console.proofs.Waiting.{row_is_kept}
 use Rattle.console.proofs.Serials.{kept_under, under_row}
 use Rattle.console.proofs.Sources.{under}
 use Rattle.console.proofs.Admission.{sane}
@@ -266,7 +266,7 @@ keeps_exactly h c l serial k = (there, back)
     back : (n : ℕ) × KeptUnder h serial n × (k.serial ≡ serial) × (k.order ≡ order_of h n) × (k.earlier ≡ min 255 (shown h n)) → at_serial serial (kept c) ≡ Some k
     back x =
         let n : ℕ = x.0 in
-        let r = row_kept h (view c) t (sane c) n x.1.kept in
+        let r = row_is_kept h (view c) t (sane c) n x.1.kept in
         let i : ℕ = n - c.base in
         let ic : i < c.book.fill.orders = omega (arith, r.1, r.2) in
         let s : serial ≡ c.first + c.base + i = omega (arith, r.1, x.1.serial, t.first_is) in

@@ -19,7 +19,7 @@ use Rattle.console.specs.History.{History, ◌▹◌, readback, order_of, recipe
 use Rattle.console.specs.Right.{first_text, text_of, KeptUnder, ReadsBack}
 use Rattle.console.specs.State.{Coupled, FoundRow}
 use Rattle.console.specs.Texts.{first_source}
-use Rattle.console.proofs.Waiting.{Sane, kept_row, row_kept}
+use Rattle.console.proofs.Waiting.{Sane, kept_row, row_is_kept}
 
 pub source_hit : (k : ℕ) (rows : List ValueRow) (i : ℕ) (d : ValueRow) → i < length rows → (get_or rows i d).parameter ≡ k → first_source k (drop i rows) ≡ Some (get_or rows i d).source
 source_hit k rows i d h e = at_drop_more (first_source k) rows i d h ∙ cond-true _ _ _ (eq-eqb _ _ (sym e))
@@ -55,7 +55,7 @@ module _ (h : History) (v : View) (k : Coupled h v) (z : Sane v) (serial : ℕ) 
   -- no kept order has another serial
   pub not_under : ((i : ℕ) → v.at < v.count → i < v.count → ¬ (serial ≡ v.first + v.base + i)) → (n : ℕ) → ¬ KeptUnder h serial n
   not_under none n q =
-      let r = row_kept h v k z n q.kept in
+      let r = row_is_kept h v k z n q.kept in
       none (n - v.base) r.0 (omega (arith, r.1, r.2)) (omega (arith, r.1, q.serial, k.first_is))
 
 -- the text at a source that was found among rows

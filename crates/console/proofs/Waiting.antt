@@ -137,8 +137,8 @@ module _ (h : History) (v : View) (k : Coupled h v) (z : Sane v) where
       drop (inl a) = omega arith
       drop (inr a) = omega arith
 
-  pub row_kept : (n : ℕ) → IsKept h n → (v.at < v.count) × (v.base ≤ n) × (n < v.base + v.count)
-  row_kept n q = (busy_at q.busy, omega (arith, k.latest_is, q.from), go (dec_lt n (v.base + v.count)))
+  pub row_is_kept : (n : ℕ) → IsKept h n → (v.at < v.count) × (v.base ≤ n) × (n < v.base + v.count)
+  row_is_kept n q = (busy_at q.busy, omega (arith, k.latest_is, q.from), go (dec_lt n (v.base + v.count)))
     where
       never : ⊥ → n < v.base + v.count
       never x = absurd x

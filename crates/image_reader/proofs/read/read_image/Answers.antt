@@ -11,8 +11,8 @@ returns-in-Err c = image_refused (Unit {0}) c.args.image.now c.args.line.now c.a
 pub returns-in-Ok : goal.returns-in-Ok
 returns-in-Ok c =
     let loaded = c.load-loaded.result in let line = c.args.line.now in let choice = c.args.choice in
-    let kept = kept_orders c.read-line.new.book in let roles = kept_roles c.read-line.new.book in
+    let kept = kept_orders c.read_line.new.book in let roles = kept_roles c.read_line.new.book in
     let l = loads_ok c.args.image.now loaded c.in-Ok.field-0 c.in-Ok.is c.load-loaded.ensures in
     let t = l.0 in let means = l.2 in
-    line_read (Unit {0}) c.args.image.now line choice kept t l.1 roles c.read-line.result
-    (by_tree (names_in loaded.register) (signatures_in loaded.register) (chosen_accepts c.chosen-judge.result) t choice line kept roles c.read-line.result means.names means.signatures (c.chosen-judge.ensures t means) c.read-line.ensures.reads)
+    line_read (Unit {0}) c.args.image.now line choice kept t l.1 roles c.read_line.result
+    (by_tree (names_in loaded.register) (signatures_in loaded.register) (chosen_accepts c.chosen-judge.result) t choice line kept roles c.read_line.result means.names means.signatures (c.chosen-judge.ensures t means) c.read_line.ensures.reads)

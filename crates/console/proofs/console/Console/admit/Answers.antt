@@ -11,23 +11,23 @@ use Rattle.console.proofs.Waiting.{busy}
 use Rattle.console.proofs.Admission.{sane, unread_couples, unchanged, turned_down, no_serials, unadmit_led, admit_led}
 use Rattle.console.proofs.console.Console.admit.Goals as goal
 
-pub returns-then-keeps-line : goal.returns-then-keeps-line
-returns-then-keeps-line g c = record {
+pub returns-then-keeps_line : goal.returns-then-keeps_line
+returns-then-keeps_line g c = record {
   law = λ h l.
       let s = c.args.self.now in record {
-        lawful = (l.lawful, TurnsDown.kept (busy h (view s) l.coupled (sane s) (ltb-true _ _ (sym c.keeps-line.ensures ∙ c.if-keeps-line.true))));
+        lawful = (l.lawful, TurnsDown.kept (busy h (view s) l.coupled (sane s) (ltb-true _ _ (sym c.keeps_line.ensures ∙ c.if-keeps_line.true))));
         coupled = unread_couples h (view s) _ _ l.coupled;
       };
   refused = record { number = refl; first = refl; base = refl; total = refl; at = refl; out = refl; fill = refl; keeps = refl };
 }
 
-pub returns-in-err-read-line : goal.returns-in-err-read-line
-returns-in-err-read-line g c =
-    let end = ltb-false c.args.self.now.at c.args.self.now.book.fill.orders (sym c.keeps-line.ensures ∙ c.if-keeps-line.false) in
-    let p = err_from_is_err_and c.from-residual.result c.from-residual.ensures.1 in
+pub returns-in_err-read_line : goal.returns-in_err-read_line
+returns-in_err-read_line g c =
+    let end = ltb-false c.args.self.now.at c.args.self.now.book.fill.orders (sym c.keeps_line.ensures ∙ c.if-keeps_line.false) in
+    let p = err_from_is_err_and c.from_residual.result c.from_residual.ensures.1 in
     let s = c.args.self.now in
-    let b = c.read-line.new.book in
-    let e = c.in-err-read-line.ensures in
+    let b = c.read_line.new.book in
+    let e = c.in_err-read_line.ensures in
     let u = unchanged s _ end refl refl refl refl refl refl (ap (λ (x : Book). x.fill) c.drop-guard.ensures) in
     rw (p.1, p.2) (record {
       law = λ h l. unadmit_led h s _ _ _ l end u (turned_down h (view s) l.coupled (sane s) end _ (kept_orders b) (kept_roles b) _ e.reads);
@@ -37,9 +37,9 @@ returns-in-err-read-line g c =
 pub returns-then-self-orders-gt-SERIALS : goal.returns-then-self-orders-gt-SERIALS
 returns-then-self-orders-gt-SERIALS g c =
     let s = c.args.self.now in
-    let end = ltb-false s.at s.book.fill.orders (sym c.keeps-line.ensures ∙ c.if-keeps-line.false) in
-    let b = c.read-line.new.book in
-    let e = c.in-ok-read-line.ensures in
+    let end = ltb-false s.at s.book.fill.orders (sym c.keeps_line.ensures ∙ c.if-keeps_line.false) in
+    let b = c.read_line.new.book in
+    let e = c.in_ok-read_line.ensures in
     let few : b.fill.orders ≤ length b.orders = omega (arith, e.rows.3, c.filled-orders.ensures.room) in
     let u = unchanged s _ end refl refl refl refl refl refl (ap (λ (x : Book). x.fill) c.drop-guard-then-self-orders-gt-SERIALS.ensures) in record {
       law = λ h l. unadmit_led h s _ _ _ l end u (no_serials h (view s) l.coupled (sane s) end _ b.fill.orders s.total b.orders _ b.values s.shown _ e.rows.2 few e.reads (omega (arith, c.filled-orders.ensures.value)));
@@ -50,9 +50,9 @@ pub returns : goal.returns
 returns g c = record {
   law = λ h l.
       let s = c.args.self.now in
-      let end = ltb-false s.at s.book.fill.orders (sym c.keeps-line.ensures ∙ c.if-keeps-line.false) in
-      let b = c.read-line.new.book in
-      let e = c.in-ok-read-line.ensures in
+      let end = ltb-false s.at s.book.fill.orders (sym c.keeps_line.ensures ∙ c.if-keeps_line.false) in
+      let b = c.read_line.new.book in
+      let e = c.in_ok-read_line.ensures in
       let few : b.fill.orders ≤ length b.orders = omega (arith, e.rows.3, c.filled-orders.ensures.room) in
       let same : c.keep.new.self.0 ≡ b = c.keep.ensures in
       let count : c.keep.new.self.0.fill.orders ≡ b.fill.orders = ap (λ (x : Book). x.fill.orders) same in

@@ -7,12 +7,12 @@ use Rattle.console.proofs.Waiting.{Sane}
 use Rattle.console.proofs.Sources.{text_there, no_text_there, told_nothing, reads_unkept, reads_unknown, reads_text}
 use Rattle.console.proofs.console.Console.readback.Goals as goal
 
-pub returns-in-default : goal.returns-in-default
-returns-in-default g c h l =
+pub returns-in_default : goal.returns-in_default
+returns-in_default g c h l =
     let s = c.args.self.now in
     let sig = g.R.Register.signatures c.args.register.now in
     let z : Sane (view s) = record { reached = s.reached; counted = s.counted; shows = s.shows } in record {
-      lawful = (l.lawful, reads_unkept h (view s) l.coupled z sig c.args.serial c.args.parameter c.in-default.ensures);
+      lawful = (l.lawful, reads_unkept h (view s) l.coupled z sig c.args.serial c.args.parameter c.in_default.ensures);
       coupled = told_nothing h (view s) sig c.args.serial c.args.parameter _ l.coupled;
     }
 
@@ -25,17 +25,17 @@ returns-then-parameter-count g c h l =
       coupled = told_nothing h (view s) sig c.args.serial c.args.parameter _ l.coupled;
     }
 
-pub returns-in-Some-text-of : goal.returns-in-Some-text-of
-returns-in-Some-text-of g c h l =
+pub returns-in-Some-text_of : goal.returns-in-Some-text_of
+returns-in-Some-text_of g c h l =
     let s = c.args.self.now in
     let sig = g.R.Register.signatures c.args.register.now in
     let z : Sane (view s) = record { reached = s.reached; counted = s.counted; shows = s.shows } in
     let row = c.in-Some.row in
     let vs = group c.args.parameter (row_kept (view s).bytes (view s).values row).values in
     let instead = default_at (sig.parameters row.recipe) c.args.parameter in
-    let t = c.in-Some-text-of.text.now in
+    let t = c.in-Some-text_of.text.now in
     record {
-      lawful = (l.lawful, reads_text h (view s) l.coupled z sig c.args.serial c.args.parameter row c.in-Some.ensures c.count.result c.count.ensures c.if-parameter-count.false (Some t) (text_there vs instead t c.in-Some-text-of.ensures));
+      lawful = (l.lawful, reads_text h (view s) l.coupled z sig c.args.serial c.args.parameter row c.in-Some.ensures c.count.result c.count.ensures c.if-parameter-count.false (Some t) (text_there vs instead t c.in-Some-text_of.ensures));
       coupled = told_nothing h (view s) sig c.args.serial c.args.parameter _ l.coupled;
     }
 
@@ -48,6 +48,6 @@ returns-in-None g c h l =
     let vs = group c.args.parameter (row_kept (view s).bytes (view s).values row).values in
     let instead = default_at (sig.parameters row.recipe) c.args.parameter in
     record {
-      lawful = (l.lawful, reads_text h (view s) l.coupled z sig c.args.serial c.args.parameter row c.in-Some.ensures c.count.result c.count.ensures c.if-parameter-count.false _ (no_text_there vs instead _ c.default-text.ensures c.in-None.ensures));
+      lawful = (l.lawful, reads_text h (view s) l.coupled z sig c.args.serial c.args.parameter row c.in-Some.ensures c.count.result c.count.ensures c.if-parameter-count.false _ (no_text_there vs instead _ c.default_text.ensures c.in-None.ensures));
       coupled = told_nothing h (view s) sig c.args.serial c.args.parameter _ l.coupled;
     }

@@ -8,5 +8,5 @@ returns-in-None c = told_at _ _ _ _ _ None c.in-None.ensures c.values-rows.ensur
 
 pub returns-in-Some : goal.returns-in-Some
 returns-in-Some c =
-    ap Some (c.source-text.ensures ∙ ap (λ b. source_text b c.in-Some.source) c.line-line.ensures)
+    ap Some (c.source_text.ensures ∙ ap (λ b. source_text b c.in-Some.source) c.line-line.ensures)
     ∙ told_at _ _ _ _ _ (Some c.in-Some.source) c.in-Some.ensures c.values-rows.ensures

@@ -7,7 +7,7 @@ use crate::fill::Fill;
 use crate::order_row::OrderRow;
 use crate::put::{put, put_path};
 use reader::source::{Source, ValueRow};
-use reader::taker::Taker;
+use reader::refusing_taker::RefusingTaker;
 use reading::role::Role;
 use refusal::Refusal;
 
@@ -54,7 +54,7 @@ impl Book {
     }
 }
 
-impl Taker for Book {
+impl RefusingTaker for Book {
     ghost told = { λ b bytes os. Holds b bytes os };
 
     ghost refuses = { λ _. false };

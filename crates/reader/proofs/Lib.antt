@@ -12,3 +12,4 @@ pub mod LineSteps
 mod Bounded
 pub mod Telling
 mod Turns
+mod ParsedTurns

@@ -24,7 +24,7 @@ use Rattle.reader.specs.Steps.{state_of}
 use Rattle.reader.specs.Scans.{held_roles}
 use Rattle.reader.specs.declared.source.ValueRow.{ValueRow}
 use Rattle.reader.specs.declared.invocation_parser.InvocationParser.{InvocationParser}
-use Rattle.reader.specs.Orders.{unless, order_by, ordered_of}
+use Rattle.reader.specs.Orders.{unless, order_by, parsed_order}
 use Rattle.reader.specs.Told.{ToldOrder, order_told, roles_told, all_roles_told, reading_told}
 use Rattle.reader.specs.Rest.{left_from}
 
@@ -77,7 +77,7 @@ module _ (names : NameMeaning) (s : SignatureMeaning) (judge : JudgeMeaning) (wa
 pub turn_told : (names : NameMeaning) (s : SignatureMeaning) (judge : JudgeMeaning) (walk : List Text → Result Path Refusal) (walks : (ws : List Text) → PathAnswer names ws (walk ws)) (bytes : List ℕ) (words slice : List Span) (first : ℕ) (before : List ToldOrder) (path : Path) (parser : InvocationParser) (w : ℕ) (rs : List Role) (vs : List ValueRow)
     → slice ≡ drop first words → w ≡ parser.order.words → rs ≡ held_roles parser.roles → vs ≡ held parser.order.values
     → LawfulPath names (texts_at bytes slice) path
-    → ordered_of s bytes slice (Ok path) parser ≡ order_by s judge (texts_at bytes slice) (walk (texts_at bytes slice))
+    → parsed_order s bytes slice (Ok path) parser ≡ order_by s judge (texts_at bytes slice) (walk (texts_at bytes slice))
     → left_from walk s judge (reading_told s bytes (before ++ record { recipe = path.recipe; first = first; path = path.words; words = w; roles = rs; values = vs } ∷ [])) (first + w) (texts_at bytes (drop (first + w) words)) ≡ behind (reading_told s bytes before) (line_from walk s judge first (texts_at bytes (drop first words)))
 turn_told names s judge walk walks bytes words slice first before path parser w rs vs part n r v lawful e =
     let o : ℕ → List Role → List ValueRow → ToldOrder = λ k x y. record { recipe = path.recipe; first = first; path = path.words; words = k; roles = x; values = y } in

@@ -25,7 +25,7 @@ use Rattle.reading.specs.declared.role.Role.TheVariants.{PathWord}
 use Rattle.reader.specs.Meaning.{held, value_of, values_of}
 use Rattle.reader.specs.Steps.{state_of}
 use Rattle.reader.specs.Scans.{held_roles}
-use Rattle.reader.specs.Orders.{default_fault, unless, order_by, ordered_of}
+use Rattle.reader.specs.Orders.{default_fault, unless, order_by, parsed_order}
 use Rattle.reader.specs.Told.{ToldOrder, roles_told, all_roles_told, values_told, Fits, UpTo}
 use Rattle.reader.specs.declared.source.ValueRow.{ValueRow}
 use Rattle.reader.specs.declared.invocation_parser.InvocationParser.{InvocationParser}
@@ -58,7 +58,7 @@ refuses_in names s judge ws (Ok path) a f e =
 module _ (s : SignatureMeaning) (judge : JudgeMeaning) (bytes : List ℕ) (words slice : List Span) (first : ℕ) (path : Path) (parser : InvocationParser) (w : ℕ) (rs : List Role) (vs : List ValueRow)
     (part : slice ≡ drop first words) (n : w ≡ parser.order.words) (r : rs ≡ held_roles parser.roles) (v : vs ≡ held parser.order.values)
     (most : w ≤ length slice) (takes : path.words ≤ length slice)
-    (e : ordered_of s bytes slice (Ok path) parser ≡ order_by s judge (texts_at bytes slice) (Ok path)) where
+    (e : parsed_order s bytes slice (Ok path) parser ≡ order_by s judge (texts_at bytes slice) (Ok path)) where
   abbrev pub order_told_here : ToldOrder
   order_told_here = record { recipe = path.recipe; first = first; path = path.words; words = w; roles = rs; values = vs }
 

@@ -31,7 +31,23 @@ fn is_dashed(word: &[u8]) -> bool
 }
 
 impl Invocation {
-    pub fn new() -> Invocation {
+    // An order behind its path.
+    pub fn new(path: usize) -> Invocation
+        ensures state { (ps : List ParameterMeaning) (bytes : List ℕ) → state_of ps bytes result [] ≡ started path }
+        ensures words { result.words ≡ path }
+        ensures fill { result.values.fill ≡ 0 }
+    {
+        Invocation {
+            words: path,
+            ended: false,
+            plains: 0,
+            waiting: Waiting::Nobody,
+            values: Values::new(),
+        }
+    }
+
+    // An order that has not begun.
+    pub fn unbegun() -> Invocation {
         Invocation {
             words: 0,
             ended: false,

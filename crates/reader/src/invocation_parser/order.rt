@@ -5,31 +5,15 @@ ghost use Rattle.text.specs.Line.{closed};
 ghost use Rattle.text.specs.Spans.{texts_at};
 ghost use Rattle.path.specs.Path.{PathAnswer};
 ghost use Rattle.path.specs.declared.path.Path.{Path as FoundPath};
-ghost use Rattle.reader.specs.Counts.{fault_of};
-ghost use Rattle.reader.specs.Orders.{default_fault, order_by, ordered_of, WordsWithin};
+ghost use Rattle.reader.specs.Orders.{order_by, parsed_order, ParsedWithin};
 
-use crate::invocation_parser::InvocationParser;
-use crate::signature::required_count;
+use crate::invocation_parser::{InvocationParser, check_can_be_default_recipe};
 use judge::Judge;
 use path::path::Path;
 use path::walk::find_path;
 use refusal::Refusal;
 use register::register::Register;
 use text::span::Span;
-
-// A default's recipe may have no required parameter.
-fn check_can_be_default_recipe<R: Register>(register: &R, path: Path) -> Result<(), Refusal>
-    ensures { fault_of result ≡ default_fault (R.Register.signatures register.now) path }
-{
-    if !path.default {
-        return Ok(());
-    }
-    let required = required_count(register, path.recipe);
-    if 0 < required {
-        return Err(Refusal::DefaultRecipeRequiresArguments { word: 0, required });
-    }
-    Ok(())
-}
 
 impl InvocationParser {
     // Reads the order whose first word is the first of these, which go on to the line's end, and answers its path. Its words, and those of a fault, are counted from there.
@@ -42,8 +26,8 @@ impl InvocationParser {
     ) -> Result<Path, Refusal>
         requires room { length (closed (texts_at bytes.now words.now)) ≤ 1024 }
         requires few { length words.now ≤ 128 }
-        ensures ordered { (walked : Answer FoundPath Fault) → PathAnswer (R.Register.names register.now) (texts_at bytes.now words.now) walked → ordered_of (R.Register.signatures register.now) bytes.now words.now result self.new ≡ order_by (R.Register.signatures register.now) (J.Judge.accepts judge.now) (texts_at bytes.now words.now) walked }
-        ensures within { WordsWithin (R.Register.names register.now) bytes.now words.now result self.new }
+        ensures ordered { (walked : Answer FoundPath Fault) → PathAnswer (R.Register.names register.now) (texts_at bytes.now words.now) walked → parsed_order (R.Register.signatures register.now) bytes.now words.now result self.new ≡ order_by (R.Register.signatures register.now) (J.Judge.accepts judge.now) (texts_at bytes.now words.now) walked }
+        ensures within { ParsedWithin (R.Register.names register.now) bytes.now words.now result self.new }
     {
         let path = find_path(register, bytes, words)?;
         check_can_be_default_recipe(register, path)?;

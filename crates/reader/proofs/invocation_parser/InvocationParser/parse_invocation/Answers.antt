@@ -8,7 +8,7 @@ use Rattle.path.specs.Path.{PathAnswer}
 use Rattle.path.specs.Laws.{Takes}
 use Rattle.reader.specs.Counts.{fault_of}
 use Rattle.reader.specs.Scans.{held_roles}
-use Rattle.reader.specs.Orders.{order_by, ordered_of, WordsWithin}
+use Rattle.reader.specs.Orders.{order_by, parsed_order, ParsedWithin}
 use Rattle.reader.proofs.OrderSteps.{closed-drop, default_at_lem, order_breaks, order_refuses, order_takes}
 use Rattle.reader.proofs.invocation_parser.InvocationParser.parse_invocation.Goals as goal
 
@@ -31,8 +31,8 @@ returns-in_err-path g c =
     let p = err_from_is_err_and c.from_residual.result c.from_residual.ensures.1 in
     let e = p.1 ∙ ap Err p.2 in
     record {
-      ordered = λ walked right. ap (λ r. ordered_of s bytes words r c.args.self.now) e ∙ ap (order_by s accepts (texts_at bytes words)) (sym (c.find_path.ensures.answer.only walked right ∙ c.in_err-path.was));
-      within = subst (λ r. WordsWithin names bytes words r c.args.self.now) (sym e) tt;
+      ordered = λ walked right. ap (λ r. parsed_order s bytes words r c.args.self.now) e ∙ ap (order_by s accepts (texts_at bytes words)) (sym (c.find_path.ensures.answer.only walked right ∙ c.in_err-path.was));
+      within = subst (λ r. ParsedWithin names bytes words r c.args.self.now) (sym e) tt;
     }
 
 pub returns-in_err-check_can_be_default_recipe : goal.returns-in_err-check_can_be_default_recipe
@@ -42,10 +42,10 @@ returns-in_err-check_can_be_default_recipe g c =
     let p = err_from_is_err_and c.from_residual-in_err-check_can_be_default_recipe.result c.from_residual-in_err-check_can_be_default_recipe.ensures.1 in
     let e = p.1 ∙ ap Err p.2 in
     record {
-      ordered = λ walked right. ap (λ r. ordered_of s bytes words r c.args.self.now) e
+      ordered = λ walked right. ap (λ r. parsed_order s bytes words r c.args.self.now) e
           ∙ default_at_lem s accepts (texts_at bytes words) c.in_ok-path.path _ (sym (ap fault_of c.in_err-check_can_be_default_recipe.was) ∙ c.check_can_be_default_recipe.ensures)
           ∙ ap (order_by s accepts (texts_at bytes words)) (sym (c.find_path.ensures.answer.only walked right ∙ c.in_ok-path.was));
-      within = subst (λ r. WordsWithin names bytes words r c.args.self.now) (sym e) tt;
+      within = subst (λ r. ParsedWithin names bytes words r c.args.self.now) (sym e) tt;
     }
 
 pub returns-in_err-read_words : goal.returns-in_err-read_words
@@ -58,10 +58,10 @@ returns-in_err-read_words g c =
     let p = err_from_is_err_and c.from_residual-in_err-read_words.result c.from_residual-in_err-read_words.ensures.1 in
     let e = p.1 ∙ ap Err p.2 in
     record {
-      ordered = λ walked right. ap (λ r. ordered_of s bytes words r (record { order = c.read_words.new.self; roles = c.read_words.new.roles })) e
+      ordered = λ walked right. ap (λ r. parsed_order s bytes words r (record { order = c.read_words.new.self; roles = c.read_words.new.roles })) e
           ∙ order_breaks s accepts bytes words slice path c.restart.new.self c.read_words.new.self (held_roles c.clear.new.self) c.read_words.new.roles c.read_words.result (take_rest words path.words) (c.restart.ensures.state (s.parameters path.recipe) bytes) none c.read_words.ensures.scans allowed _ c.in_err-read_words.was
           ∙ ap (order_by s accepts (texts_at bytes words)) (sym (c.find_path.ensures.answer.only walked right ∙ c.in_ok-path.was));
-      within = subst (λ r. WordsWithin names bytes words r (record { order = c.read_words.new.self; roles = c.read_words.new.roles })) (sym e) tt;
+      within = subst (λ r. ParsedWithin names bytes words r (record { order = c.read_words.new.self; roles = c.read_words.new.roles })) (sym e) tt;
     }
 
 pub returns-in_err-check : goal.returns-in_err-check
@@ -74,10 +74,10 @@ returns-in_err-check g c =
     let p = err_from_is_err_and c.from_residual-in_err-check.result c.from_residual-in_err-check.ensures.1 in
     let e = p.1 ∙ ap Err p.2 in
     record {
-      ordered = λ walked right. ap (λ r. ordered_of s bytes words r (record { order = c.read_words.new.self; roles = c.read_words.new.roles })) e
+      ordered = λ walked right. ap (λ r. parsed_order s bytes words r (record { order = c.read_words.new.self; roles = c.read_words.new.roles })) e
           ∙ order_refuses s accepts bytes words slice path c.restart.new.self c.read_words.new.self (held_roles c.clear.new.self) c.read_words.new.roles c.read_words.result (take_rest words path.words) (c.restart.ensures.state (s.parameters path.recipe) bytes) none c.read_words.ensures.scans allowed _ c.in_ok-read_words.was _ (sym (ap fault_of c.in_err-check.was) ∙ c.check.ensures)
           ∙ ap (order_by s accepts (texts_at bytes words)) (sym (c.find_path.ensures.answer.only walked right ∙ c.in_ok-path.was));
-      within = subst (λ r. WordsWithin names bytes words r (record { order = c.read_words.new.self; roles = c.read_words.new.roles })) (sym e) tt;
+      within = subst (λ r. ParsedWithin names bytes words r (record { order = c.read_words.new.self; roles = c.read_words.new.roles })) (sym e) tt;
     }
 
 pub returns : goal.returns

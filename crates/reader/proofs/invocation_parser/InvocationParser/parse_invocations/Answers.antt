@@ -23,7 +23,7 @@ returns g c =
     let line = c.args.line.now in
     let names = g.R.Register.names c.args.register.now in let s = g.R.Register.signatures c.args.register.now in let accepts = g.J.Judge.accepts c.args.judge.now in
     let same = ap (λ (b : List ℕ). texts_at b c.words-words.result.now) c.bytes-bytes.ensures ∙ c.words-words.ensures.value in
-    let told = g.T.Taker.told c.parse_all.new.taker in
-    line_told names s accepts g.T.Taker.refuses told (bytes_of line) (words_of line) c.parse_all.result
-    (subst (λ (ws : List Text). AllTold names s accepts g.T.Taker.refuses told (bytes_of line) ws c.parse_all.result) same
-    (subst (λ (b : List ℕ). AllTold names s accepts g.T.Taker.refuses told b (texts_at c.bytes-bytes.result.now c.words-words.result.now) c.parse_all.result) c.bytes-bytes.ensures c.parse_all.ensures))
+    let told = g.T.RefusingTaker.told c.parse_all.new.taker in
+    line_told names s accepts g.T.RefusingTaker.refuses told (bytes_of line) (words_of line) c.parse_all.result
+    (subst (λ (ws : List Text). AllTold names s accepts g.T.RefusingTaker.refuses told (bytes_of line) ws c.parse_all.result) same
+    (subst (λ (b : List ℕ). AllTold names s accepts g.T.RefusingTaker.refuses told b (texts_at c.bytes-bytes.result.now c.words-words.result.now) c.parse_all.result) c.bytes-bytes.ensures c.parse_all.ensures))

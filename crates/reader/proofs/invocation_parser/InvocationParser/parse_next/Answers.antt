@@ -45,7 +45,7 @@ returns-in_ok-take-in-Ok g c =
     let takes = (lawful_takes names (texts_at bytes slice) path e.within.0).most in let many = length-map slice (text_at bytes) in
     let ordered = e.ordered (Ok path) e.within.0 in
     let l = ap length part ∙ length-drop first words in
-    let took = subst (Took g.T.Taker.refuses (g.T.Taker.told c.args.taker.now) (g.T.Taker.told c.take.new.self) _) c.in_ok-take-in-Ok.was c.take.ensures in (
+    let took = subst (Took g.T.RefusingTaker.refuses (g.T.RefusingTaker.told c.args.taker.now) (g.T.RefusingTaker.told c.take.new.self) _) c.in_ok-take-in-Ok.was c.take.ensures in (
       _,
       took bytes,
       λ os. record {
@@ -63,8 +63,8 @@ returns-in_err-take-in-Ok g c =
     let bytes = c.args.bytes.now in let words = c.args.words.now in let first = c.args.first in
     let slice = take (length words - first) (drop first words) in let part = take_rest words first in
     let p = err_from_is_err_and c.from_residual.result c.from_residual.ensures.1 in
-    let refused = subst (Took g.T.Taker.refuses (g.T.Taker.told c.args.taker.now) (g.T.Taker.told c.take.new.self) _) c.in_err-take-in-Ok.was c.take.ensures in
-    subst (NextTold names s accepts g.T.Taker.refuses (g.T.Taker.told c.args.taker.now) (g.T.Taker.told c.take.new.self) bytes words first) (sym (p.1 ∙ ap Err p.2)) (inl refused)
+    let refused = subst (Took g.T.RefusingTaker.refuses (g.T.RefusingTaker.told c.args.taker.now) (g.T.RefusingTaker.told c.take.new.self) _) c.in_err-take-in-Ok.was c.take.ensures in
+    subst (NextTold names s accepts g.T.RefusingTaker.refuses (g.T.RefusingTaker.told c.args.taker.now) (g.T.RefusingTaker.told c.take.new.self) bytes words first) (sym (p.1 ∙ ap Err p.2)) (inl refused)
 
 pub returns-in-Err : goal.returns-in-Err
 returns-in-Err g c =

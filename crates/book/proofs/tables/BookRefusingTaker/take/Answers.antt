@@ -1,7 +1,7 @@
 use Rattle.std.proofs.Common.{◌≡◌, ℕ, ◌+◌, ◌<◌, ◌≤◌, List, length, take, sym, refl, ap, ◌∙◌, subst, arith, rules}
 use Rattle.reader.specs.Told.{ToldOrder}
 use Rattle.book.proofs.Takes.{room, took}
-use Rattle.book.proofs.tables.BookTaker.take.Goals as goal
+use Rattle.book.proofs.tables.BookRefusingTaker.take.Goals as goal
 
 pub put_path-requires : goal.put_path-requires
 put_path-requires c =

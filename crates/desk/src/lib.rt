@@ -17,8 +17,9 @@ use register::register::Register;
 use report::{ReadingText, RolesText};
 use script::call::{Call, Verb};
 use script::hex::HexFault;
+use script::reading_call::ReadingCall;
 use script::tally::Tally;
-use script::{answer, call, hex};
+use script::{answer, call, hex, reading_call};
 use std::alloc::{AllocError, Global};
 use std::fs;
 use std::io::{BufRead, BufReader};
@@ -92,28 +93,35 @@ fn bytes_of(heap: Global, spelled: bool, rest: Option<&[u8]>) -> Result<Vec<u8>,
     }
 }
 
-// The answer to a call on a line of bytes.
-fn on_line<R: Register, J: Judge>(
+fn cut_hex(heap: Global, tally: &mut Tally, digits: &[u8]) -> Result<String, AllocError> {
+    match hex::unhex(heap, digits) {
+        Ok(bytes) => cut(heap, tally, bytes.as_slice()),
+        Err(HexFault::NotHex) => not_hex(heap),
+        Err(HexFault::NoMemory) => Err(AllocError),
+    }
+}
+
+fn not_hex(heap: Global) -> Result<String, AllocError> {
+    String::from_str(heap, "malformed: the bytes are pairs of hexadecimal digits")
+}
+
+// The answer to a call that reads a line of bytes.
+fn on_reading<R: Register, J: Judge>(
     heap: Global,
     register: &R,
     judge: &J,
     session: &mut Session,
-    verb: Verb,
+    asked: ReadingCall,
     rest: Option<&[u8]>,
 ) -> Result<String, AllocError> {
-    let spelled = matches!(verb, Verb::WordsHex | Verb::ReadHex);
+    let spelled = matches!(asked, ReadingCall::ReadHex);
     let bytes = match bytes_of(heap, spelled, rest) {
         Ok(bytes) => bytes,
-        Err(HexFault::NotHex) => {
-            return String::from_str(heap, "malformed: the bytes are pairs of hexadecimal digits");
-        }
+        Err(HexFault::NotHex) => return not_hex(heap),
         Err(HexFault::NoMemory) => return Err(AllocError),
     };
-    if matches!(verb, Verb::Words | Verb::WordsHex) {
-        return cut(heap, &mut session.tally, bytes.as_slice());
-    }
     match read(register, judge, session, bytes.as_slice()) {
-        Ok(()) if matches!(verb, Verb::Roles) => format!(in heap;
+        Ok(()) if matches!(asked, ReadingCall::Roles) => format!(in heap;
             "{}",
             RolesText {
                 book: &session.book
@@ -146,13 +154,19 @@ fn respond<R: Register, J: Judge>(
 ) -> Result<String, AllocError> {
     let Call { name, rest } = call::part(line);
     match call::named(name) {
-        Some(verb @ (Verb::Words | Verb::WordsHex | Verb::Read | Verb::ReadHex | Verb::Roles)) =>
-            on_line(heap, register, judge, session, verb, rest),
+        Some(Verb::Words) => {
+            let bytes = call::typed_line(heap, rest)?;
+            cut(heap, &mut session.tally, bytes.as_slice())
+        }
+        Some(Verb::WordsHex) => cut_hex(heap, &mut session.tally, or_empty(rest)),
         Some(Verb::Find) => tree::find(heap, register, or_empty(rest)),
         Some(Verb::Recipe) => tree::recipe(heap, register, or_empty(rest)),
         Some(Verb::Judge) => tree::judge(heap, judge, or_empty(rest)),
         Some(Verb::Help) => String::from_str(heap, HELP),
-        None => String::from_str(heap, "unknown call: help lists the calls"),
+        None => match reading_call::called(name) {
+            Some(asked) => on_reading(heap, register, judge, session, asked, rest),
+            None => String::from_str(heap, "unknown call: help lists the calls"),
+        },
     }
 }
 

@@ -11,9 +11,9 @@ use std::alloc::{AllocError, Global};
 // `MODULE KIND NAME`, taken apart.
 fn read_find(rest: &[u8]) -> Option<(u16, Kind, &[u8])> {
     let Call { name, rest } = call::part(rest);
-    let module = call::small_number(name)?;
+    let module = call::number(name)?;
     let Call { name, rest } = call::part(rest?);
-    let number = call::small_number(name)?;
+    let number = call::number(name)?;
     if number > 6 {
         return None;
     }
@@ -98,7 +98,7 @@ fn push_parameter<R: Register>(
 
 // `recipe`, the number of parameters, and each parameter behind a bar.
 pub fn recipe<R: Register>(heap: Global, register: &R, rest: &[u8]) -> Result<String, AllocError> {
-    let Some(recipe) = call::small_number(rest) else {
+    let Some(recipe) = call::number(rest) else {
         return String::from_str(heap, "malformed: recipe takes a number");
     };
     let count = register.count(recipe);
@@ -112,7 +112,7 @@ pub fn recipe<R: Register>(heap: Global, register: &R, rest: &[u8]) -> Result<St
 // Whether a text belongs to a pattern.
 pub fn judge<J: Judge>(heap: Global, judge: &J, rest: &[u8]) -> Result<String, AllocError> {
     let Call { name, rest } = call::part(rest);
-    match (call::small_number(name), rest) {
+    match (call::number(name), rest) {
         (Some(pattern), Some(text)) if pattern < 256 => {
             let answer = if judge.belongs(pattern as u8, text) {
                 "yes"

@@ -3,16 +3,16 @@ use Rattle.std.proofs.Common.{◌≡◌, ℕ, ◌+◌, ◌<◌, ◌≤◌, List,
 use Rattle.std.proofs.lemmas.List.{at_drop_more, at_drop_all}
 use Rattle.script.specs.Call.{with_digit, digits_on, number_of}
 
-digits_none : (top : ℕ) (t : List ℕ) → digits_on top None t ≡ None
-digits_none top [] = refl
-digits_none top (c ∷ t) = refl
+digits_none : (t : List ℕ) → digits_on None t ≡ None
+digits_none [] = refl
+digits_none (c ∷ t) = refl
 
-module _ (top : ℕ) (text : List ℕ) (i n : ℕ) (so : digits_on top (Some n) (drop i text) ≡ number_of top text) where
-  pub digit_on : i < length text → (m : Option ℕ) → m ≡ with_digit top n (get_or text i 0) → digits_on top m (drop (i + 1) text) ≡ number_of top text
-  digit_on h m e = ap (λ o. digits_on top o (drop (i + 1) text)) e ∙ sym (at_drop_more (digits_on top (Some n)) text i 0 h) ∙ so
+module _ (text : List ℕ) (i n : ℕ) (so : digits_on (Some n) (drop i text) ≡ number_of text) where
+  pub digit_on : i < length text → (m : Option ℕ) → m ≡ with_digit n (get_or text i 0) → digits_on m (drop (i + 1) text) ≡ number_of text
+  digit_on h m e = ap (λ o. digits_on o (drop (i + 1) text)) e ∙ sym (at_drop_more (digits_on (Some n)) text i 0 h) ∙ so
 
-  pub no_digit : i < length text → None ≡ with_digit top n (get_or text i 0) → None ≡ number_of top text
-  no_digit h e = sym (digits_none top (drop (i + 1) text)) ∙ digit_on h None e
+  pub no_digit : i < length text → None ≡ with_digit n (get_or text i 0) → None ≡ number_of text
+  no_digit h e = sym (digits_none (drop (i + 1) text)) ∙ digit_on h None e
 
-  pub all_digits : length text ≤ i → Some n ≡ number_of top text
-  all_digits h = sym (at_drop_all (digits_on top (Some n)) text i h) ∙ so
+  pub all_digits : length text ≤ i → Some n ≡ number_of text
+  all_digits h = sym (at_drop_all (digits_on (Some n)) text i h) ∙ so

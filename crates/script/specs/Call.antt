@@ -4,7 +4,7 @@ use Rattle.std.specs.Option.{option_flatten, option_map}
 use Rattle.std.specs.Str.{bytes_eq}
 use Rattle.script.specs.declared.call.Call.{Call}
 use Rattle.script.specs.declared.call.Verb.{Verb}
-use Rattle.script.specs.declared.call.Verb.TheVariants.{Words, WordsHex, Read, ReadHex, Roles, Find, Recipe, Judge, Admit, AdmitHex, Issue, Acknowledge, Lost, Withdraw, Status, Readback, Help}
+use Rattle.script.specs.declared.call.Verb.TheVariants.{Words, WordsHex, Find, Recipe, Judge, Help}
 
 -- blank, or a comment
 abbrev pub skipped : List ℕ → Bool
@@ -25,37 +25,14 @@ pub record Parted (line : List ℕ) (call : Call) : Type 0 where
   pub whole : MatchOption call.rest (line ≡ call.name.now) (λ rest. line ≡ call.name.now ++ (32 ∷ rest.now))
   pub named : Spaceless call.name.now
 
-abbrev pub or_else : Option Verb → Option Verb → Option Verb
-or_else None other = other
-or_else (Some verb) other = Some verb
-
--- the calls on lines and on the tree
-abbrev pub question_of : List ℕ → Option Verb
-question_of name =
+abbrev pub verb_of : List ℕ → Option Verb
+verb_of name =
     cond (bytes_eq name (codes "words")) (Some Words)
     (cond (bytes_eq name (codes "wordsx")) (Some WordsHex)
-    (cond (bytes_eq name (codes "read")) (Some Read)
-    (cond (bytes_eq name (codes "readx")) (Some ReadHex)
-    (cond (bytes_eq name (codes "roles")) (Some Roles)
     (cond (bytes_eq name (codes "find")) (Some Find)
     (cond (bytes_eq name (codes "recipe")) (Some Recipe)
     (cond (bytes_eq name (codes "judge")) (Some Judge)
-    (cond (bytes_eq name (codes "help")) (Some Help) None))))))))
-
--- the calls on the console
-abbrev pub order_of : List ℕ → Option Verb
-order_of name =
-    cond (bytes_eq name (codes "admit")) (Some Admit)
-    (cond (bytes_eq name (codes "admitx")) (Some AdmitHex)
-    (cond (bytes_eq name (codes "issue")) (Some Issue)
-    (cond (bytes_eq name (codes "ack")) (Some Acknowledge)
-    (cond (bytes_eq name (codes "lost")) (Some Lost)
-    (cond (bytes_eq name (codes "withdraw")) (Some Withdraw)
-    (cond (bytes_eq name (codes "status")) (Some Status)
-    (cond (bytes_eq name (codes "readback")) (Some Readback) None)))))))
-
-abbrev pub verb_of : List ℕ → Option Verb
-verb_of name = or_else (question_of name) (order_of name)
+    (cond (bytes_eq name (codes "help")) (Some Help) None)))))
 
 -- a space closes a word
 abbrev pub typed_as : ℕ → ℕ
@@ -73,23 +50,23 @@ digit_value c = cond (nat_le 48 c && nat_le c 57) (Some (c - 48)) None
 abbrev pub up_to : ℕ → ℕ → Option ℕ
 up_to top n = cond (nat_le n top) (Some n) None
 
-abbrev pub with_value : ℕ → ℕ → Option ℕ → Option ℕ
-with_value top n None = None
-with_value top n (Some v) = up_to top (n * 10 + v)
+abbrev pub with_value : ℕ → Option ℕ → Option ℕ
+with_value n None = None
+with_value n (Some v) = up_to 65535 (n * 10 + v)
 
--- a number with one more digit behind it, up to a top
-abbrev pub with_digit : ℕ → ℕ → ℕ → Option ℕ
-with_digit top n c = with_value top n (digit_value c)
+-- a number with one more digit behind it, up to 65,535
+abbrev pub with_digit : ℕ → ℕ → Option ℕ
+with_digit n c = with_value n (digit_value c)
 
-abbrev pub Small : ℕ → Option ℕ → Type 0
-Small top r = IfSome r (λ n. n ≤ top)
+abbrev pub Small : Option ℕ → Type 0
+Small r = IfSome r (λ n. n ≤ 65535)
 
-abbrev pub digits_on : ℕ → Option ℕ → List ℕ → Option ℕ
-digits_on top r [] = r
-digits_on top None (c ∷ t) = None
-digits_on top (Some n) (c ∷ t) = digits_on top (with_digit top n c) t
+abbrev pub digits_on : Option ℕ → List ℕ → Option ℕ
+digits_on r [] = r
+digits_on None (c ∷ t) = None
+digits_on (Some n) (c ∷ t) = digits_on (with_digit n c) t
 
--- a decimal number up to a top, in digits alone
-abbrev pub number_of : ℕ → List ℕ → Option ℕ
-number_of top [] = None
-number_of top (c ∷ t) = digits_on top (Some 0) (c ∷ t)
+-- a decimal number up to 65,535, in digits alone
+abbrev pub number_of : List ℕ → Option ℕ
+number_of [] = None
+number_of (c ∷ t) = digits_on (Some 0) (c ∷ t)

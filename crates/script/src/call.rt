@@ -1,7 +1,7 @@
 // A line of the script, taken apart.
 ghost use Rattle.std.specs.Prelude.{◌≡◌, ◌≤◌, Bool, ◌++◌, length, IfOk, Some, OnOk};
 ghost use Rattle.std.specs.Option.{option_map};
-ghost use Rattle.script.specs.Call.{skipped, first_space, Parted, question_of, order_of, verb_of, typed_as, line_of, digit_value, with_digit, Small, number_of};
+ghost use Rattle.script.specs.Call.{skipped, first_space, Parted, verb_of, typed_as, line_of, digit_value, with_digit, Small, number_of};
 
 use std::alloc::{AllocError, Global};
 use text::span::texts::same;
@@ -11,20 +11,9 @@ use text::span::texts::same;
 pub enum Verb {
     Words,
     WordsHex,
-    Read,
-    ReadHex,
-    Roles,
     Find,
     Recipe,
     Judge,
-    Admit,
-    AdmitHex,
-    Issue,
-    Acknowledge,
-    Lost,
-    Withdraw,
-    Status,
-    Readback,
     Help,
 }
 
@@ -74,20 +63,13 @@ pub fn part(line: &[u8]) -> Call<'_>
     }
 }
 
-// A call on lines or on the tree.
-fn question(name: &[u8]) -> Option<Verb>
-    ensures { result ≡ question_of name.now }
+pub fn named(name: &[u8]) -> Option<Verb>
+    ensures { result ≡ verb_of name.now }
 {
     if same(name, b"words") {
         Some(Verb::Words)
     } else if same(name, b"wordsx") {
         Some(Verb::WordsHex)
-    } else if same(name, b"read") {
-        Some(Verb::Read)
-    } else if same(name, b"readx") {
-        Some(Verb::ReadHex)
-    } else if same(name, b"roles") {
-        Some(Verb::Roles)
     } else if same(name, b"find") {
         Some(Verb::Find)
     } else if same(name, b"recipe") {
@@ -98,41 +80,6 @@ fn question(name: &[u8]) -> Option<Verb>
         Some(Verb::Help)
     } else {
         None
-    }
-}
-
-// A call on the console.
-fn order(name: &[u8]) -> Option<Verb>
-    ensures { result ≡ order_of name.now }
-{
-    if same(name, b"admit") {
-        Some(Verb::Admit)
-    } else if same(name, b"admitx") {
-        Some(Verb::AdmitHex)
-    } else if same(name, b"issue") {
-        Some(Verb::Issue)
-    } else if same(name, b"ack") {
-        Some(Verb::Acknowledge)
-    } else if same(name, b"lost") {
-        Some(Verb::Lost)
-    } else if same(name, b"withdraw") {
-        Some(Verb::Withdraw)
-    } else if same(name, b"status") {
-        Some(Verb::Status)
-    } else if same(name, b"readback") {
-        Some(Verb::Readback)
-    } else {
-        None
-    }
-}
-
-// The call of a name.
-pub fn named(name: &[u8]) -> Option<Verb>
-    ensures { result ≡ verb_of name.now }
-{
-    match question(name) {
-        Some(verb) => Some(verb),
-        None => order(name),
     }
 }
 
@@ -166,49 +113,36 @@ pub fn typed_line(heap: Global, rest: Option<&[u8]>) -> Result<Vec<u8>, AllocErr
 }
 
 // A decimal digit's value.
-fn digit_value(digit: u8) -> Option<u64>
+fn digit_value(digit: u8) -> Option<u32>
     ensures { result ≡ digit_value digit }
 {
     match digit {
-        b'0'..=b'9' => Some((digit - b'0') as u64),
+        b'0'..=b'9' => Some((digit - b'0') as u32),
         _ => None,
     }
 }
 
-// A number with one more digit behind it, up to a top.
-fn with_digit(so_far: u64, digit: u8, top: u32) -> Option<u64>
-    requires { so_far ≤ top }
-    ensures value { result ≡ with_digit top so_far digit }
-    ensures small { Small top result }
+// A number with one more digit behind it, up to 65,535.
+fn with_digit(so_far: u32, digit: u8) -> Option<u32>
+    requires { so_far ≤ 65535 }
+    ensures value { result ≡ with_digit so_far digit }
+    ensures small { Small result }
 {
     let value = digit_value(digit)?;
     let number = so_far * 10 + value;
-    if number <= u64::from(top) {
-        Some(number)
-    } else {
-        None
-    }
+    if number <= 65535 { Some(number) } else { None }
 }
 
-// A decimal number up to a top, in digits alone.
-pub fn number(text: &[u8], top: u32) -> Option<u32>
-    ensures value { result ≡ number_of top text.now }
-    ensures small { Small top result }
+// A decimal number up to 65,535, in digits alone.
+pub fn number(text: &[u8]) -> Option<u16>
+    ensures { result ≡ number_of text.now }
 {
     if text.is_empty() {
         return None;
     }
     let mut so_far = 0;
     for digit in text {
-        so_far = with_digit(so_far, *digit, top)?;
+        so_far = with_digit(so_far, *digit)?;
     }
-    Some(so_far as u32)
-}
-
-// A decimal number up to 65,535, in digits alone.
-pub fn small_number(text: &[u8]) -> Option<u16>
-    ensures { result ≡ number_of 65535 text.now }
-{
-    let number = number(text, 65535)?;
-    Some(number as u16)
+    Some(so_far as u16)
 }

@@ -3,5 +3,7 @@
 
 pub mod answer;
 pub mod call;
+pub mod console_call;
 pub mod hex;
+pub mod reading_call;
 pub mod tally;

@@ -1,13 +1,9 @@
 -- The words of a line, cut at its zero bytes.
-use Rattle.std.proofs.Common.{◌≡◌, ℕ, suc, ◌+◌, ◌-◌, ◌<◌, ◌≤◌, Bool, true, false, cond, ◌&&◌, eqb, List, [], ◌∷◌, ◌++◌, length, get_or, sym, refl, ap, ◌∙◌, subst, arith}
-use Rattle.std.specs.List.{AllByRecursion as All}
+use Rattle.std.proofs.Common.{◌≡◌, ℕ, suc, ◌-◌, ◌<◌, Bool, true, false, cond, eqb, List, [], ◌∷◌, ◌++◌, length, get_or, sym, refl, ap, ◌∙◌, arith}
 use Rattle.std.proofs.lemmas.List.{append-nil, append_assoc, length-append}
-use Rattle.std.proofs.lemmas.Bool.{and_parts, and_from, eqb-true, eq-eqb, ne_eqb, true≢false, false≢true}
-use Rattle.refusal.specs.declared.Refusal.{Refusal}
-use Rattle.refusal.specs.declared.Refusal.TheVariants.{LineTooLong, LineNotClosed, TooManyWords, WordNotUtf8}
+use Rattle.std.proofs.lemmas.Bool.{and_parts, false≢true}
 use Rattle.text.specs.Identifier.{Text}
-use Rattle.text.specs.Utf8.{Utf8}
-use Rattle.text.specs.Line.{closed, bare, all_bare, Cut, Within, Oversteps, LineStands}
+use Rattle.text.specs.Line.{closed, bare, all_bare, Cut}
 
 -- two cases of a test
 pub either_way : {C : Type 0} (b : Bool) → (b ≡ true → C) → (b ≡ false → C) → C

@@ -1,6 +1,6 @@
 -- The loop that fills the table of words.
-use Rattle.std.proofs.Common.{◌≡◌, ℕ, zero, suc, ◌+◌, ◌-◌, ◌<◌, ◌≤◌, min, Bool, true, false, cond, ◌&&◌, eqb, ◌⊎◌, List, [], ◌∷◌, ◌++◌, map, length, get_or, take, drop, set, sym, refl, ap, ◌∙◌, subst, inl, inr, ⊎_elim, arith}
-use Rattle.std.proofs.lemmas.List.{append-nil, append_assoc, length-append, length-take, length-take-le, length-map, length-set, length-drop, take-append-drop, drop-drop, drop_more, take_at, take_more, take_more_set, take_all, map_push, get_or-drop, get_or-take, drop_all}
+use Rattle.std.proofs.Common.{◌≡◌, ℕ, zero, suc, ◌+◌, ◌-◌, ◌<◌, ◌≤◌, true, false, cond, eqb, ◌⊎◌, List, [], ◌∷◌, ◌++◌, length, get_or, take, drop, set, sym, refl, ap, ◌∙◌, subst, inl, inr, arith}
+use Rattle.std.proofs.lemmas.List.{append_assoc, length-append, length-take-le, length-map, length-set, length-drop, take-append-drop, drop-drop, drop_more, take_at, take_more, take_more_set, take_all, map_push, get_or-drop, get_or-take}
 use Rattle.std.proofs.lemmas.Bool.{and_parts, and_from, eqb-true, eq-eqb, ne_eqb, true≢false, false≢true, cases_lt, cond-false}
 use Rattle.text.specs.Identifier.{Text}
 use Rattle.text.specs.Spans.{text_at, texts_at}

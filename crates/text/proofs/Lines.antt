@@ -1,13 +1,12 @@
 -- A line keeps the limits or oversteps one first.
-use Rattle.std.proofs.Common.{◌≡◌, ℕ, ◌+◌, ◌<◌, ◌≤◌, List, [], ◌∷◌, ◌++◌, length, sym, refl, ap, ◌∙◌, subst, arith}
+use Rattle.std.proofs.Common.{◌≡◌, ℕ, ◌<◌, ◌≤◌, List, [], ◌∷◌, ◌++◌, length, refl, ap, subst, arith}
 use Rattle.std.specs.List.{AllByRecursion as All}
-use Rattle.std.proofs.lemmas.List.{length-append}
 use Rattle.refusal.specs.declared.Refusal.{Refusal}
-use Rattle.refusal.specs.declared.Refusal.TheVariants.{LineTooLong, LineNotClosed, TooManyWords, WordNotUtf8}
+use Rattle.refusal.specs.declared.Refusal.TheVariants.{WordNotUtf8}
 use Rattle.text.specs.Identifier.{Text}
 use Rattle.text.specs.Utf8.{Utf8}
-use Rattle.text.specs.Line.{closed, Cut, Within, Oversteps, LineStands}
-use Rattle.text.proofs.Cuts.{cut_only, cut_last, cut_some}
+use Rattle.text.specs.Line.{Cut, Within, Oversteps, LineStands}
+use Rattle.text.proofs.Cuts.{cut_only, cut_last}
 
 -- a list of words has one first word that is not UTF-8
 same_first : (xs ys us vs : List Text) (x u : Text) → xs ++ x ∷ ys ≡ us ++ u ∷ vs → All Utf8 xs → (Utf8 x → ⊥) → All Utf8 us → (Utf8 u → ⊥) → length xs ≡ length us

@@ -1,5 +1,5 @@
 -- A word taken apart by its leading dashes.
-use Rattle.std.specs.Prelude.{◌≡◌, ℕ, List, [], ◌∷◌, ◌≢◌}
+use Rattle.std.specs.Prelude.{◌≡◌, ◌∷◌, ◌≢◌}
 use Rattle.text.specs.Identifier.{Text}
 use Rattle.text.specs.declared.dashes.Dashes.{Dashes}
 use Rattle.text.specs.declared.dashes.Dashes.TheVariants.{Two, One, Plain}

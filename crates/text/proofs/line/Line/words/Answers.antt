@@ -1,4 +1,4 @@
-use Rattle.std.proofs.Common.{◌≡◌, ◌-◌, take, refl, ap, ◌∙◌, arith}
+use Rattle.std.proofs.Common.{◌≡◌, ◌-◌, take, ap, arith}
 use Rattle.text.specs.Spans.{texts_at}
 use Rattle.text.specs.Lines.{bytes_of}
 use Rattle.text.proofs.Kept.{within}

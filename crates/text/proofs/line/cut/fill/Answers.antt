@@ -1,4 +1,3 @@
-use Rattle.std.proofs.Common.{refl}
 use Rattle.text.proofs.Filling.{too_many, word_step, byte_step, all_filled}
 use Rattle.text.proofs.line.cut.fill.Goals as goal
 use Rattle.text.proofs.line.cut.fill.Goals.{then-b-eq0+else-count-eq-LINE_WORDS, else-b-eq0}

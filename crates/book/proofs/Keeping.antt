@@ -1,22 +1,22 @@
 -- What a book keeps of a reading that it was told. Assumes nothing.
-use Rattle.std.proofs.Common.{◌≡◌, ℕ, zero, suc, ◌+◌, ◌-◌, ◌<◌, ◌≤◌, Bool, true, false, ◌⊎◌, List, [], ◌∷◌, ◌++◌, map, length, take, drop, Ok, Err, Result, sym, refl, ap, ◌∙◌, subst, inl, inr, append-nil, arith, length-append, take-take, take-add}
+use Rattle.std.proofs.Common.{◌≡◌, ℕ, ◌+◌, ◌-◌, ◌≤◌, false, List, [], ◌∷◌, ◌++◌, map, length, take, drop, Ok, Err, Result, sym, refl, ap, ◌∙◌, subst, inl, inr, arith, take-take}
 use lib.Seq.{take-append-le}
 use Rattle.std.specs.List.{AllByRecursion as All}
-use Rattle.std.proofs.lemmas.List.{take_all, length-map, drop-drop, drop-take, drop_all}
+use Rattle.std.proofs.lemmas.List.{take_all, length-map, drop-drop, drop-take}
 use Rattle.refusal.specs.declared.Refusal.{Refusal}
 use Rattle.text.specs.Identifier.{Text}
-use Rattle.text.specs.Line.{closed, Within}
+use Rattle.text.specs.Line.{Within}
 use Rattle.register.specs.Meaning.{NameMeaning, SignatureMeaning}
 use Rattle.judge.specs.Meaning.{JudgeMeaning}
 use Rattle.reading.specs.Line.{Taken, size, Order, Reading, Cut, Lawful, OnlyReading, shifted_value, orders_of}
 use Rattle.reading.specs.declared.role.Role.{Role}
 use Rattle.reading.proofs.Runs.{clash}
 use Rattle.reader.specs.Meaning.{value_of}
-use Rattle.reader.specs.Told.{ToldOrder, all_roles_told, values_told, order_told, reading_told, Fits}
+use Rattle.reader.specs.Told.{ToldOrder, all_roles_told, values_told, order_told, reading_told}
 use Rattle.reader.specs.Rest.{LineTold}
 use Rattle.reader.specs.declared.source.ValueRow.{ValueRow}
 use Rattle.book.specs.Holds.{row_at, rows_from, all_values, Holds}
-use Rattle.book.specs.Kept.{KeptOrder, row_kept, kept_orders, kept_roles, told_as, Reads, RowWithin, Rows}
+use Rattle.book.specs.Kept.{row_kept, kept_orders, kept_roles, told_as, Reads, RowWithin, Rows}
 use Rattle.book.specs.declared.order_row.OrderRow.{OrderRow}
 use Rattle.book.specs.declared.tables.Book.{Book}
 

@@ -6,8 +6,8 @@ ghost use Rattle.book.specs.Kept.{kept_orders};
 use crate::fill::Fill;
 use crate::order_row::OrderRow;
 use crate::put::{put, put_path};
-use reader::source::{Source, ValueRow};
 use reader::refusing_taker::RefusingTaker;
+use reader::source::{Source, ValueRow};
 use reading::role::Role;
 use refusal::Refusal;
 

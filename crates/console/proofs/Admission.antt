@@ -1,5 +1,5 @@
 -- What an admit does to the tie between history and state.
-use Rattle.std.proofs.Common.{◌≡◌, ℕ, ◌+◌, ◌-◌, ◌^◌, ◌<◌, ◌≤◌, min, Bool, true, false, cond, ltb, ◌⊎◌, List, [], ◌∷◌, ◌++◌, map, length, get_or, take, Ok, Err, Result, sym, refl, ap, ◌∙◌, subst, inl, inr, arith, le-ltb, lt-ltb}
+use Rattle.std.proofs.Common.{◌≡◌, ℕ, ◌+◌, ◌^◌, ◌<◌, ◌≤◌, List, [], ◌++◌, map, length, get_or, take, Ok, Err, sym, ap, ◌∙◌, subst, inl, inr, arith, le-ltb, lt-ltb}
 use Rattle.std.specs.List.{range_with_len}
 use Rattle.std.proofs.lemmas.List.{length-append, length-map, length-take-le, get_or-append-add, get_or-map, get_or-take, ext_get_or}
 use Rattle.std.proofs.lemmas.List.FromFn.{length-map-range_with_len, get_or-map-range_with_len}
@@ -13,8 +13,8 @@ use Rattle.book.specs.Kept.{KeptOrder, row_kept, kept_orders, kept_roles, told_a
 use Rattle.book.specs.declared.fill.Fill.{Fill}
 use Rattle.book.specs.declared.order_row.OrderRow.{OrderRow}
 use Rattle.console.specs.Keeps.{Kept, View, view, kept, kept_in, kept_at, order_at, no_row}
-use Rattle.console.specs.History.{Asked, Accepted, History, ◌▹◌, admitted, unadmitted, accepted_by, no_accepted, orders, order_of, shown, first_of, serial_of, Waits, Idle}
-use Rattle.console.specs.Right.{Takes, TurnsDown, ReadsAs, no_kept}
+use Rattle.console.specs.History.{Asked, Accepted, History, ◌▹◌, admitted, unadmitted, accepted_by, no_accepted, orders}
+use Rattle.console.specs.Right.{Takes, TurnsDown, no_kept}
 use Rattle.console.specs.State.{Coupled, Led, Unchanged}
 use Rattle.console.specs.declared.admitted.Admitted.{Admitted}
 use Rattle.console.specs.declared.console.Console.{Console}

@@ -1,18 +1,18 @@
 -- The law read as the promises are worded.
-use Rattle.std.proofs.Common.{◌≡◌, ℕ, ◌+◌, ◌-◌, ◌^◌, ◌<◌, ◌≤◌, min, Bool, true, false, cond, ◌⊎◌, ◌↔◌, List, [], ◌∷◌, ◌++◌, map, length, get_or, is_ok, Some, Ok, Err, Result, sym, refl, ap, ◌∙◌, subst, inl, inr, arith}
+use Rattle.std.proofs.Common.{◌≡◌, ℕ, ◌+◌, ◌-◌, ◌<◌, ◌≤◌, min, true, ◌⊎◌, ◌↔◌, List, [], ◌∷◌, ◌++◌, map, length, get_or, is_ok, Some, Ok, Err, Result, sym, refl, ap, ◌∙◌, subst, inl, inr, arith}
 use native.Mathlib.Decide.{dec_lt}
 use Rattle.std.proofs.lemmas.List.{length-append, length-map, get_or_append_left, get_or-append_right, get_or-map}
 use Rattle.refusal.specs.declared.Refusal.{Refusal}
-use Rattle.refusal.specs.declared.Refusal.TheVariants.{LineKept, SerialsEnd, OrderOut, NoneWaiting}
+use Rattle.refusal.specs.declared.Refusal.TheVariants.{LineKept, SerialsEnd}
 use Rattle.text.specs.Identifier.{Text}
 use Rattle.text.specs.Line.{Within}
 use Rattle.text.proofs.Lines.{line_stands}
 use Rattle.reading.specs.Line as line
 use Rattle.reading.specs.Line.{Order, Reading}
-use Rattle.book.specs.Kept.{KeptOrder, told_as}
+use Rattle.book.specs.Kept.{told_as}
 use Rattle.console.specs.Keeps.{Kept, view, kept, kept_at, order_at, at_serial}
 use Rattle.console.specs.History.{Asked, Event, History, made, ◌▹◌, admitted, unadmitted, issue, acknowledge, lost, withdraw, status, readback, Accepted, accepted_by, Deed, takes, shows, finishes, returns, drops, nothing, deed, orders_by, out_by, ack_by, drop_by, first_of, serial_of, orders, order_of, no_accepted, Out, Acknowledged, Withdrawn, Waits, shown, Free, Idle, Busy}
-use Rattle.console.specs.Right.{Right, Lawful, ReadsAs, Takes, TurnsDown, Shows, ShowsNot, Fits, Returned, KeptUnder, no_kept}
+use Rattle.console.specs.Right.{Right, Lawful, ReadsAs, Takes, TurnsDown, Shows, ShowsNot, Fits, KeptUnder, no_kept}
 use Rattle.console.specs.State.{Led, Coupled}
 use Rattle.console.specs.Law.{later, AsRead, PassesTop, LawStands}
 use Rattle.console.specs.declared.console.Console.{Console}

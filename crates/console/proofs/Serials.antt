@@ -1,9 +1,8 @@
 -- What is kept under a serial.
-use Rattle.std.proofs.Common.{◌≡◌, ℕ, zero, suc, ◌+◌, ◌-◌, ◌<◌, ◌≤◌, Bool, true, false, cond, eqb, ltb, ◌≢◌, List, [], ◌∷◌, map, length, get_or, Some, None, Option, sym, refl, ap, ◌∙◌, arith, le-ltb, lt-ltb, eq-eqb, ne_eqb}
+use Rattle.std.proofs.Common.{◌≡◌, ℕ, zero, suc, ◌+◌, ◌-◌, ◌<◌, true, false, eqb, ltb, map, Some, None, sym, refl, ap, ◌∙◌, arith, le-ltb, lt-ltb, eq-eqb, ne_eqb}
 use native.Mathlib.Decide.{dec_lt}
 use Rattle.std.specs.List.{range_with_len}
-use Rattle.book.specs.Kept.{KeptOrder}
-use Rattle.console.specs.Keeps.{Kept, View, at_serial, kept_at, kept_in, order_at}
+use Rattle.console.specs.Keeps.{Kept, View, at_serial, kept_at, kept_in}
 
 -- a row among those from a on
 row_under : (f : ℕ → Kept) (s : ℕ) → ((i : ℕ) → (f i).serial ≡ s + i) → (a n i : ℕ) → i < n → at_serial (s + (a + i)) (map f (range_with_len a n)) ≡ Some (f (a + i))

@@ -1,5 +1,5 @@
 -- Where the first text of a parameter stands, and what a readback tells of it.
-use Rattle.std.proofs.Common.{◌≡◌, ℕ, ◌+◌, ◌-◌, ◌<◌, ◌≤◌, Bool, true, false, cond, eqb, ◌⊎◌, List, [], ◌∷◌, map, length, get_or, drop, Some, None, Ok, Err, Option, Result, sym, refl, ap, ◌∙◌, inl, inr, arith}
+use Rattle.std.proofs.Common.{◌≡◌, ℕ, ◌+◌, ◌-◌, ◌<◌, ◌≤◌, Bool, true, false, eqb, List, [], ◌∷◌, map, length, get_or, drop, Some, None, Ok, Err, Option, Result, sym, refl, ap, ◌∙◌, inl, inr, arith}
 use Rattle.std.specs.Option.{option_map, option_or}
 use Rattle.std.proofs.lemmas.List.{at_drop_more}
 use Rattle.refusal.specs.declared.Refusal.{Refusal}
@@ -14,7 +14,7 @@ use Rattle.reading.specs.Reading.{Value, group}
 use Rattle.reading.specs.Line.{shifted_value}
 use Rattle.book.specs.Kept.{row_kept}
 use Rattle.book.specs.declared.order_row.OrderRow.{OrderRow}
-use Rattle.console.specs.Keeps.{View, order_at}
+use Rattle.console.specs.Keeps.{View}
 use Rattle.console.specs.History.{History, ◌▹◌, readback, order_of, recipe_of}
 use Rattle.console.specs.Right.{first_text, text_of, KeptUnder, ReadsBack}
 use Rattle.console.specs.State.{Coupled, FoundRow}

@@ -1,14 +1,14 @@
 -- What a call does to the tie between history and state.
-use Rattle.std.proofs.Common.{◌≡◌, ℕ, ◌+◌, ◌-◌, ◌<◌, ◌≤◌, min, Bool, true, false, cond, eqb, ◌≢◌, ◌⊎◌, List, length, get_or, set, Some, Ok, Err, sym, refl, ap, ◌∙◌, inl, inr, arith, get_or-set_other, get_or-set_same, eq-eqb, ne_eqb}
+use Rattle.std.proofs.Common.{◌≡◌, ℕ, ◌+◌, ◌-◌, ◌<◌, ◌≤◌, min, true, false, cond, eqb, ◌⊎◌, List, length, get_or, set, Some, Ok, sym, refl, ap, ◌∙◌, inl, inr, arith, get_or-set_other, get_or-set_same, eq-eqb, ne_eqb}
 use native.Mathlib.Decide.{dec_lt, ℕ_discrete}
 use Rattle.std.specs.Option.{option_map}
 use Rattle.console.specs.Keeps.{Kept, View, kept_in, order_at}
-use Rattle.console.specs.History.{History, Event, ◌▹◌, withdraw, issue, Waits, Out, Acknowledged, Withdrawn, orders, first_of, serial_of, shown}
+use Rattle.console.specs.History.{History, ◌▹◌, withdraw, issue, Waits, Out, Acknowledged, Withdrawn, orders, first_of, serial_of, shown}
 use Rattle.console.specs.Right.{Shows}
 use Rattle.console.specs.State.{Coupled}
 use Rattle.console.specs.declared.console.slip.Slip.{Slip}
 use Rattle.console.specs.declared.issued.Issued.{Issued}
-use Rattle.console.proofs.Waiting.{Sane, gone, inside, below, free, first}
+use Rattle.console.proofs.Waiting.{Sane, inside, below, free, first}
 use Rattle.console.proofs.Serials.{kept_under}
 
 -- a view with another number of rows

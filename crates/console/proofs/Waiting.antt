@@ -2,8 +2,8 @@
 use Rattle.std.proofs.Common.{◌≡◌, ℕ, zero, suc, ◌+◌, ◌-◌, ◌<◌, ◌≤◌, min, Bool, true, false, cond, ◌⊎◌, length, sym, refl, ◌∙◌, subst, inl, inr, arith}
 use native.Mathlib.Decide.{dec_lt}
 use Rattle.console.specs.Keeps.{View}
-use Rattle.console.specs.History.{History, Counted, none, one, skip, Waits, Out, Idle, Busy, IsKept, Free, First, orders, latest, serial_of}
-use Rattle.console.specs.Right.{Outs, Balanced, Withdraws, KeptUnder}
+use Rattle.console.specs.History.{History, Counted, none, one, skip, Waits, Out, Idle, Busy, IsKept, Free, First, orders}
+use Rattle.console.specs.Right.{Outs, Withdraws}
 use Rattle.console.specs.State.{Coupled}
 
 -- of the numbers below n, those from lo to hi have P, and no others

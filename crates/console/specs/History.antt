@@ -1,5 +1,5 @@
 -- Histories of a console: its making and then its calls with their answers, and what is read off them. Assumes nothing.
-use Rattle.std.specs.Prelude.{◌≡◌, ℕ, suc, ◌+◌, ◌<◌, ◌≤◌, max, Bool, true, false, cond, ◌⊎◌, List, [], ◌++◌, map, length, Ok, Err, Option, Result, ◌==◌, slice_index_or}
+use Rattle.std.specs.Prelude.{◌≡◌, ℕ, suc, ◌+◌, ◌<◌, ◌≤◌, max, cond, ◌⊎◌, List, [], ◌++◌, map, length, Ok, Err, Option, Result, ◌==◌, slice_index_or}
 use Rattle.refusal.specs.declared.Refusal.{Refusal}
 use Rattle.text.specs.Identifier.{Text}
 use Rattle.register.specs.Meaning.{NameMeaning, SignatureMeaning}

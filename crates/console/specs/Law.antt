@@ -1,15 +1,15 @@
 -- The law of the console over every history, and what follows from it in the words of its users. Assumes nothing.
-use Rattle.std.specs.Prelude.{◌≡◌, ℕ, ◌+◌, ◌^◌, ◌<◌, min, true, cond, ◌↔◌, List, [], ◌∷◌, length, is_ok, Some, Ok, Err, Result, ◌≢◌, slice_index_or}
+use Rattle.std.specs.Prelude.{◌≡◌, ℕ, ◌+◌, ◌^◌, ◌<◌, min, true, cond, ◌↔◌, List, [], ◌∷◌, length, is_ok, Some, Ok, Result, ◌≢◌, slice_index_or}
 use Rattle.refusal.specs.declared.Refusal.{Refusal}
-use Rattle.refusal.specs.declared.Refusal.TheVariants.{LineKept, SerialsEnd, OrderOut, NoneWaiting}
+use Rattle.refusal.specs.declared.Refusal.TheVariants.{LineKept, SerialsEnd}
 use Rattle.text.specs.Identifier.{Text}
 use Rattle.text.specs.Line.{Within}
 use Rattle.reading.specs.Line as line
 use Rattle.reading.specs.Line.{Order, Reading}
 use Rattle.book.specs.Kept.{told_as}
 use Rattle.console.specs.Keeps.{Kept, kept, at_serial}
-use Rattle.console.specs.History.{Asked, Event, History, made, ◌▹◌, admitted, unadmitted, issue, acknowledge, lost, withdraw, status, number_of, first_of, serial_of, orders, order_of, no_accepted, Out, Acknowledged, Withdrawn, Waits, shown, Free, Idle, Busy}
-use Rattle.console.specs.Right.{Right, Lawful, ReadsAs, Takes, Fits, Outs, Balanced, KeptUnder}
+use Rattle.console.specs.History.{Asked, Event, History, ◌▹◌, admitted, unadmitted, issue, acknowledge, lost, withdraw, status, first_of, serial_of, orders, order_of, Out, Acknowledged, Withdrawn, Waits, shown, Free, Idle, Busy}
+use Rattle.console.specs.Right.{Right, Lawful, ReadsAs, Fits, Outs, Balanced, KeptUnder}
 use Rattle.console.specs.State.{Led}
 use Rattle.console.specs.declared.console.Console.{Console}
 use Rattle.console.specs.declared.console.slip.Slip.{Slip}

@@ -1,5 +1,5 @@
 -- The right answer to each call of a console, after the calls before it. Assumes nothing.
-use Rattle.std.specs.Prelude.{◌≡◌, ℕ, ◌+◌, ◌^◌, ◌<◌, ◌≤◌, min, Bool, true, false, cond, ◌⊎◌, List, [], ◌∷◌, map, length, Some, None, Ok, Err, Option, Result, slice_index_or}
+use Rattle.std.specs.Prelude.{◌≡◌, ℕ, ◌+◌, ◌^◌, ◌<◌, ◌≤◌, min, true, false, cond, ◌⊎◌, List, [], ◌∷◌, map, length, Some, Ok, Err, Option, Result, slice_index_or}
 use Rattle.std.specs.Option.{option_map}
 use Rattle.refusal.specs.declared.Refusal.{Refusal}
 use Rattle.refusal.specs.declared.Refusal.TheVariants.{NoSuchParameter, LineKept, SerialsEnd, OrderOut, NoneWaiting, WrongSlip, NotKept}
@@ -11,7 +11,7 @@ use Rattle.reading.specs.Reading.{Value, group}
 use Rattle.reading.specs.Line.{Reading, OnlyReading}
 use Rattle.book.specs.Kept.{KeptOrder, told_as}
 use Rattle.console.specs.Keeps.{Kept, at_serial}
-use Rattle.console.specs.History.{Asked, Event, History, made, ◌▹◌, admitted, unadmitted, issue, acknowledge, lost, withdraw, status, readback, number_of, first_of, serial_of, orders, order_of, recipe_of, Out, Acknowledged, Withdrawn, Waits, shown, acks, dropped, Counted, Free, Idle, Busy, IsKept, First}
+use Rattle.console.specs.History.{Asked, Event, History, made, ◌▹◌, admitted, unadmitted, issue, acknowledge, lost, withdraw, status, readback, number_of, first_of, serial_of, orders, order_of, recipe_of, Out, Waits, shown, acks, dropped, Counted, Free, Idle, Busy, IsKept, First}
 use Rattle.console.specs.declared.console.slip.Slip.{Slip}
 use Rattle.console.specs.declared.admitted.Admitted.{Admitted}
 use Rattle.console.specs.declared.issued.Issued.{Issued}

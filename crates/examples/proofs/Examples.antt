@@ -1,5 +1,5 @@
 -- The examples, computed by the model and so settled by the rules. Assumes nothing.
-use Rattle.std.proofs.Common.{◌≡◌, List, [], ◌∷◌, Result, refl, subst}
+use Rattle.std.proofs.Common.{◌≡◌, List, Result, refl, subst}
 use Rattle.refusal.specs.declared.Refusal.{Refusal}
 use Rattle.text.specs.Identifier.{Text}
 use Rattle.judge.specs.Meaning.{JudgeMeaning}

@@ -1,5 +1,5 @@
 -- The example tree: recipe `lower` (0) has a gate, an option `by` (long by, letter b) and a flag `quiet` (letter q); module `east`, also called `e`, has recipe `raise` (1) with Plus `gates`; no module has a default. Assumes nothing.
-use Rattle.std.specs.Prelude.{ℕ, true, false, List, [], ◌∷◌, Some, None, codes}
+use Rattle.std.specs.Prelude.{ℕ, true, false, [], ◌∷◌, Some, None, codes}
 use Rattle.text.specs.Identifier.{Text}
 use Rattle.tree.specs.Tree.{Module, Name, Parameter, Tree}
 

@@ -1,10 +1,9 @@
 -- From what the check finds of the derived rows to what a register over them carries in its type.
-use Rattle.std.proofs.Common.{◌≡◌, ℕ, zero, suc, ◌<◌, ◌≤◌, ◌⊎◌, List, [], ◌∷◌, map, length, get_or, take, Some, None, Option, unwrap_or, sym, refl, ap, ◌∙◌, subst, inl, inr, arith}
+use Rattle.std.proofs.Common.{◌≡◌, ℕ, zero, suc, List, [], ◌∷◌, map, Some, None, Option, unwrap_or, sym, refl, ap, ◌∙◌, subst, inl, inr, arith}
 use Rattle.std.specs.Option.{option_map, option_flatten}
 use Rattle.std.specs.List.{AllByRecursion as All, slice_get}
 use Rattle.std.proofs.lemmas.Option.{slice_get-map}
 use Rattle.std.proofs.ByRecursion.{All-get_or}
-use Rattle.text.specs.Identifier.{Text}
 use Rattle.text.specs.Spans.{text_at}
 use Rattle.tree.specs.Tree.{Parameter}
 use Rattle.tree.specs.Keys.{long_key, letter_key}
@@ -15,8 +14,7 @@ use Rattle.tree.specs.declared.rows.LetterRow.{LetterRow}
 use Rattle.records.specs.TreeRows.{RecipeTidy}
 use Rattle.register.specs.Parameters.{long_at, letter_at}
 use Rattle.tree_register.specs.Signatures.{parameter_of, parameters_of}
-use Rattle.tree_register.specs.Derived.{Few, LongsRight, LongsTold, LettersRight, LettersTold, parameters_in}
-use Rattle.tree_register.specs.Laws.{Told}
+use Rattle.tree_register.specs.Derived.{Few, LongsRight, LongsTold, LettersRight, LettersTold}
 use Rattle.tree_register.proofs.Derive.{longs_right_lem, longs_told_lem, letters_right_lem, letters_told_lem}
 use Rattle.whole.specs.Places.{Stands, Among}
 use Rattle.whole.specs.Shared.{Named}

@@ -1,5 +1,5 @@
 -- What a register over checked tables carries in its type, and what it means.
-use Rattle.std.proofs.Common.{◌≡◌, ℕ, ◌<◌, ◌≤◌, min, List, [], ◌∷◌, map, length, take, Ok, Err, Result, sym, refl, ap, ◌∙◌, subst, arith, MatchResult}
+use Rattle.std.proofs.Common.{◌≡◌, ℕ, ◌≤◌, List, [], map, length, Ok, Err, Result, sym, refl, ap, ◌∙◌, subst, arith, MatchResult}
 use Rattle.std.proofs.lemmas.List.{length-take, length-map}
 use Rattle.refusal.specs.declared.Refusal.{Refusal}
 use Rattle.table.specs.Order.{Ascending}
@@ -18,8 +18,7 @@ use Rattle.image.specs.declared.load.Loaded.{Loaded}
 use Rattle.image.specs.Checks.{Says, Checks}
 use Rattle.image.specs.Image.{Lawful, Unlawful}
 use Rattle.image.specs.Loads.{Loads, Means, no_tree}
-use Rattle.image.specs.Tables.{zero, modules_in, names_in, recipes_in, patterns_in, longs_in, letters_in, tree_in}
-use Rattle.judges.specs.Patterns.{JudgesOfTree}
+use Rattle.image.specs.Tables.{modules_in, names_in, recipes_in, patterns_in, longs_in, letters_in, tree_in}
 use Rattle.judges.proofs.Places.{judges_of_tree}
 use Rattle.image.proofs.Bridge.{few_from, right_longs, told_longs, right_letters, told_letters}
 use Rattle.image.proofs.Keeps.{names_ascend, rows_ascend}

@@ -1,13 +1,12 @@
 -- What the steps of the check find, put together.
-use Rattle.std.proofs.Common.{◌≡◌, ℕ, ◌-◌, ◌<◌, ◌≤◌, List, map, length, take, drop, sym, refl, ap, ◌∙◌, subst, arith}
+use Rattle.std.proofs.Common.{◌≡◌, ℕ, ◌-◌, ◌≤◌, List, map, length, take, drop, sym, ap, ◌∙◌, subst, arith}
 use Rattle.std.proofs.lemmas.List.{length-map, length-take-le}
-use Rattle.std.specs.List.{AllByRecursion as All}
 use Rattle.format.specs.Format.{Good}
 use Rattle.format.proofs.Whole.{encoded}
 use Rattle.records.specs.Records.{tree}
-use Rattle.records.specs.TreeRows.{Filled, RecipeTidy, PatternTidy}
+use Rattle.records.specs.TreeRows.{Filled}
 use Rattle.tree.specs.Tree.{Tree}
-use Rattle.tree.specs.Rows.{module_at, name_at, recipe_at}
+use Rattle.tree.specs.Rows.{name_at}
 use Rattle.tree.specs.declared.rows.NameRow.{NameRow}
 use Rattle.whole.specs.Shared.{EachApart}
 use Rattle.whole.specs.Modules.{EachNamedOnce, FirstNotOnce}

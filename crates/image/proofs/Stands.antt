@@ -1,15 +1,14 @@
 -- An image says one tree or gets one refusal, and never both.
-use Rattle.std.proofs.Common.{◌≡◌, ℕ, ◌+◌, ◌<◌, ◌≤◌, ◌⊎◌, List, length, sym, refl, ap, ◌∙◌, subst, inl, inr, arith}
+use Rattle.std.proofs.Common.{◌≡◌, ℕ, ◌+◌, ◌<◌, List, length, sym, refl, ap, ◌∙◌, subst, inl, inr, arith}
 use Rattle.std.proofs.lemmas.Bool.{cases_order}
 use Rattle.refusal.specs.declared.Refusal.{Refusal}
 use Rattle.refusal.specs.declared.Refusal.TheVariants.{BytesBehind, SharedName, ModuleNotNamedOnce}
-use Rattle.format.specs.Format.{Good}
 use Rattle.format.proofs.Whole.{encoded}
 use Rattle.records.specs.Records.{tree}
 use Rattle.records.proofs.Certain.{tree_sure}
 use Rattle.tree.specs.Tree.{Tree, Name, Parameter}
 use Rattle.whole.specs.Shared.{Apart, EachApart, FirstShared}
-use Rattle.whole.specs.Modules.{EachNamedOnce, FirstNotOnce}
+use Rattle.whole.specs.Modules.{FirstNotOnce}
 use Rattle.whole.proofs.Places.{stands_within, stands_both}
 use Rattle.image.specs.Image.{Lawful, Holds, Unlawful, ImageStands}
 

@@ -2,7 +2,7 @@
 use Rattle.std.specs.Prelude.{◌≡◌, ℕ, ◌≤◌, List, map, length, drop, Result, MatchResult}
 use Rattle.std.specs.List.{AllByRecursion as All}
 use Rattle.refusal.specs.declared.Refusal.{Refusal}
-use Rattle.tree.specs.Rows.{name_at, recipe_at}
+use Rattle.tree.specs.Rows.{recipe_at}
 use Rattle.records.specs.TreeRows.{RecipeTidy, PatternTidy}
 use Rattle.whole.specs.Derived.{LongsListed, LettersListed}
 use Rattle.image.specs.declared.tables.Sizes.{Sizes}

@@ -2,7 +2,7 @@
 use Rattle.std.specs.Prelude.{◌≡◌, ℕ, ◌<◌, ◌≤◌, List, length}
 use Rattle.refusal.specs.declared.Refusal.{Refusal}
 use Rattle.refusal.specs.declared.Refusal.TheVariants.{ImageTooLong, BytesBehind, SharedName, ModuleNotNamedOnce}
-use Rattle.format.specs.Format.{Format, Good}
+use Rattle.format.specs.Format.{Good}
 use Rattle.records.specs.Records.{tree}
 use Rattle.tree.specs.Tree.{Tree}
 use Rattle.whole.specs.Shared.{EachApart, FirstShared}

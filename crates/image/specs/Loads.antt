@@ -1,8 +1,7 @@
 -- What an image that was checked means. Assumes nothing.
 use Rattle.std.specs.Prelude.{◌≡◌, ℕ, List, [], map, length, MatchResult}
 use Rattle.register.specs.Meaning.{NameMeaning, SignatureMeaning}
-use Rattle.judge.specs.Meaning.{JudgeMeaning}
-use Rattle.judges.specs.Patterns.{tree_texts, tree_gauges, texts_over, gauges_over, OfTree}
+use Rattle.judges.specs.Patterns.{OfTree}
 use Rattle.tree.specs.Tree.{Tree}
 use Rattle.tree.specs.Rows.{module_at, name_at, recipe_at}
 use Rattle.tree_register.specs.Names.{names_of, tree_names}

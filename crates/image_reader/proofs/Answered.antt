@@ -1,8 +1,8 @@
 -- What is read over an image is what just answers. Assumes nothing.
-use Rattle.std.proofs.Common.{◌≡◌, ℕ, ◌⊎◌, List, map, length, Ok, Err, Result, sym, refl, ap, ◌∙◌, subst, inl, inr, MatchResult}
+use Rattle.std.proofs.Common.{◌≡◌, ℕ, List, length, Ok, Err, Result, sym, ap, ◌∙◌, subst, inl, inr, MatchResult}
 use Rattle.refusal.specs.declared.Refusal.{Refusal}
 use Rattle.text.specs.Identifier.{Text}
-use Rattle.text.specs.Line.{Within, Oversteps, LineStands}
+use Rattle.text.specs.Line.{Within, Oversteps}
 use Rattle.text.proofs.Lines.{line_stands}
 use Rattle.register.specs.Meaning.{NameMeaning, SignatureMeaning}
 use Rattle.judge.specs.Meaning.{JudgeMeaning}
@@ -16,7 +16,7 @@ use Rattle.image.specs.declared.tables.Sizes.{Sizes}
 use Rattle.image.proofs.Stands.{image_stands}
 use Rattle.reading.specs.Line.{Reading, OnlyReading}
 use Rattle.reading.specs.declared.role.Role.{Role}
-use Rattle.book.specs.Kept.{KeptOrder, told_as, Reads}
+use Rattle.book.specs.Kept.{KeptOrder, Reads}
 use Rattle.just.specs.InvocationParser.{parse_invocations}
 use Rattle.just.specs.FromTree.{justfiles_of}
 use Rattle.just.specs.Outcome.{of_just, of_reading}

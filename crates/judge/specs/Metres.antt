@@ -1,5 +1,5 @@
 -- Readings in metres, as texts such as `0`, `3.45` and `1200.5`. Assumes nothing.
-use Rattle.std.specs.Prelude.{◌≡◌, ℕ, ◌+◌, ◌-◌, ◌*◌, ◌^◌, ◌≤◌, true, List, [], ◌∷◌, ◌++◌, length, fold, slice_index_or}
+use Rattle.std.specs.Prelude.{◌≡◌, ℕ, ◌+◌, ◌-◌, ◌*◌, ◌^◌, ◌≤◌, true, [], ◌∷◌, ◌++◌, length, fold, slice_index_or}
 use Rattle.std.specs.Str.{all_ascii_digits}
 use Rattle.text.specs.Identifier.{Text}
 

@@ -1,16 +1,15 @@
 -- Patterns by their number, over rows.
-use Rattle.std.proofs.Common.{◌≡◌, ℕ, zero, suc, ◌<◌, ◌≤◌, Bool, false, List, [], ◌∷◌, map, length, get_or, take, Some, None, Option, sym, refl, ap, ◌∙◌, arith}
+use Rattle.std.proofs.Common.{◌≡◌, ℕ, zero, suc, ◌<◌, ◌≤◌, List, [], ◌∷◌, map, length, get_or, take, Some, None, sym, refl, ap, ◌∙◌, arith}
 use Rattle.std.specs.List.{slice_get}
 use Rattle.std.proofs.lemmas.List.{length-map, get_or-map, take-map}
 use Rattle.std.proofs.lemmas.Option.{slice_get-get_or, slice_get_past}
 use Rattle.text.specs.Identifier.{Text}
 use Rattle.text.specs.Spans.{text_at, texts_at}
 use Rattle.text.specs.declared.span.Span.{Span}
-use Rattle.tree.specs.Tree.{Tree, Pattern}
 use Rattle.tree.specs.Rows.{pattern_at, listed_at}
 use Rattle.tree.specs.declared.rows.PatternRow.{PatternRow}
 use Rattle.judge.specs.Listed.{listed}
-use Rattle.judges.specs.Patterns.{by_texts, texts_of, pattern_texts, pattern_gauges, tree_texts, tree_gauges, texts_over, gauges_over, OfTree, JudgesOfTree}
+use Rattle.judges.specs.Patterns.{by_texts, texts_of, pattern_texts, pattern_gauges, texts_over, gauges_over, JudgesOfTree}
 
 -- the pattern of a number, over rows
 module _ (image : List ℕ) (rows : List PatternRow) (i : ℕ) where

@@ -19,7 +19,7 @@ use Rattle.tree.specs.Tree.{Tree, Name, Module}
 use Rattle.register.specs.Parameters.{Passes, AtMostOne, Apart, has_long, has_letter}
 use Rattle.register.proofs.Places.{place_only, passing, text_has, code_has}
 use Rattle.register.specs.declared.kind.Kind.TheVariants as kinds
-use Rattle.tree_register.specs.Names.{is_named, leads, tree_names}
+use Rattle.tree_register.specs.Names.{is_named, tree_names}
 use Rattle.tree_register.specs.Signatures as signatures
 use Rattle.tree_register.specs.Signatures.{tree_signatures}
 use Rattle.tree_register.proofs.Found.{found_exists, default_exists}

@@ -29,7 +29,7 @@ use Rattle.reading.specs.Model.Ordered.{Took, Refuses}
 use Rattle.reading.specs.declared.role.Role.{Role}
 use Rattle.just.specs.Error.{Error}
 use Rattle.just.specs.Results.{and_then}
-use Rattle.just.specs.Value.{Value, Element}
+use Rattle.just.specs.Value.{Element}
 use Rattle.just.specs.Parameter.{Parameter}
 use Rattle.just.specs.InvocationParser.{Resolved, Loop, Invocation, recipe_of, parse_arguments, push_invocation, parse_from, parse_invocations}
 use Rattle.just.specs.FromTree.{recipe_at, justfiles_of}

@@ -17,7 +17,7 @@ use Rattle.reading.specs.Model.Did.{Gave, Wrong}
 use Rattle.reading.specs.Model.Scanned.{Stopped, Broken}
 use Rattle.reading.specs.declared.role.Role.{Role}
 use Rattle.reading.specs.declared.role.Role.TheVariants.{SwitchWord, SwitchValue, EndMark, PlainWord}
-use Rattle.just.specs.Error.{Error, Switch}
+use Rattle.just.specs.Error.{Error}
 use Rattle.just.specs.Error.Error.{InvalidOption}
 use Rattle.just.specs.Value.{Value}
 use Rattle.just.specs.Parameter.{Parameter}

@@ -22,8 +22,8 @@ use Rattle.just.specs.Error.Error.{UnknownRecipe, UnknownSubmodule, ExpectedSubm
 use Rattle.just.specs.Str as str
 use Rattle.just.specs.Table.{get, is_empty}
 use Rattle.just.specs.Modulepath as modulepath
-use Rattle.just.specs.Recipe.{Recipe, min_arguments}
-use Rattle.just.specs.Justfile.{Justfile, ModuleAlias}
+use Rattle.just.specs.Recipe.{min_arguments}
+use Rattle.just.specs.Justfile.{Justfile}
 use Rattle.just.specs.Results.{if_let}
 use Rattle.just.specs.InvocationParser.{Resolved, on_path, default_by, default_of, leaf_by, leaf, resolve_from, resolve_recipe}
 use Rattle.just.specs.FromTree.{recipe_at, modulepath_to, justfile_of, justfiles_of}

@@ -12,7 +12,6 @@ use Rattle.reading.specs.Model.{is_nil}
 use Rattle.just.specs.Str as str
 use Rattle.just.specs.Str.{Halves}
 use Rattle.just.specs.Results.{if_let}
-use Rattle.just.specs.Error.{Switch}
 use Rattle.just.specs.Error.Switch.{Long, Short}
 use Rattle.just.specs.InvocationParser.{undashed, name_of, value_of, switches_of}
 use Rattle.just.proofs.Meaning.{switch_means}

@@ -17,9 +17,7 @@ use Rattle.tree_register.specs.Names.{is_of_kind, is_named, leads, led_from, tre
 use Rattle.tree_register.specs.Signatures as signatures
 use Rattle.tree_register.specs.Signatures.{tree_signatures}
 use Rattle.tree_register.specs.Found.{FoundExists}
-use Rattle.just.specs.Table.{get, find, is_empty}
-use Rattle.just.specs.Parameter.{Parameter}
-use Rattle.just.specs.Recipe.{Recipe}
+use Rattle.just.specs.Table.{get, is_empty}
 use Rattle.just.specs.Justfile.{submodule_by}
 use Rattle.just.specs.FromTree.{kind_of, parameter_of, recipe_at, modulepath_to, table_from, table_of, number_of, justfile_of, justfiles_from, justfiles_of}
 use Rattle.just.proofs.Meaning.{kind_means, meaning}

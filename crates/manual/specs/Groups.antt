@@ -5,7 +5,7 @@ use Rattle.std.specs.List.{slice_get}
 use Rattle.text.specs.Identifier.{Text}
 use Rattle.register.specs.Meaning.{NameMeaning, ParameterMeaning, SignatureMeaning}
 use Rattle.judge.specs.Meaning.{JudgeMeaning}
-use Rattle.reading.specs.Reading.{Value, LawfulOrder}
+use Rattle.reading.specs.Reading.{LawfulOrder}
 use Rattle.reading.specs.Line.{Taken, Order, Reading, Lawful}
 use Rattle.manual.specs.Orders.{text_of, At, texts_of}
 

@@ -1,5 +1,5 @@
 -- What follows from the rules of paths.
-use Rattle.std.proofs.Common.{◌≡◌, ℕ, ◌+◌, ◌<◌, ◌≤◌, Bool, true, false, List, [], ◌∷◌, ◌++◌, length, is_ok, IfOk, Some, None, Ok, Err, Option, Result, sym, refl, ap, ◌∙◌, subst, arith}
+use Rattle.std.proofs.Common.{◌≡◌, ℕ, ◌+◌, ◌<◌, ◌≤◌, Bool, true, false, List, [], ◌∷◌, length, is_ok, IfOk, Some, None, Ok, Err, Option, Result, sym, refl, ap, ◌∙◌, subst, arith}
 use Rattle.std.proofs.lemmas.List.{length-append, length-map}
 use Rattle.std.proofs.lemmas.Bool.{and_parts, true≢false, false≢true}
 use Rattle.refusal.specs.declared.Refusal.{Refusal}
@@ -16,7 +16,7 @@ use Rattle.path.specs.declared.step.Step.TheVariants.{Enter, Take}
 use Rattle.path.specs.Path.{Modulepath, words_of, followed_by, Leads, Lacks, Stops, Reaches, Resolves, Strays, Meant, Gives, LawfulPath, PathFault, PathAnswer}
 use Rattle.path.specs.Laws.{Takes, Empty, PathLaws}
 use Rattle.path.specs.Steps.{StepsTo, of_words, of_pieces}
-use Rattle.path.proofs.Model.{step_of, home_by, home, after, walk, whole}
+use Rattle.path.proofs.Model.{step_of, home_by, after, walk}
 use Rattle.path.proofs.Names.{module_is, recipe_is, step_does}
 use Rattle.path.proofs.Walks.{resolves_is}
 use Rattle.path.proofs.Words.{alone}

@@ -1,17 +1,17 @@
 -- Steps of the walk along the pieces of a word.
-use Rattle.std.proofs.Common.{◌≡◌, ℕ, ◌+◌, ◌-◌, ◌<◌, ◌≤◌, Bool, true, false, ltb, List, [], ◌∷◌, ◌++◌, length, take, drop, Some, Ok, Err, Result, sym, refl, ap, ◌∙◌, subst, arith}
+use Rattle.std.proofs.Common.{◌≡◌, ℕ, ◌+◌, ◌-◌, ◌<◌, ◌≤◌, true, false, ltb, List, [], ◌∷◌, ◌++◌, length, take, drop, Some, Ok, Result, sym, ap, ◌∙◌, subst, arith}
 use Rattle.std.proofs.lemmas.List.{append_assoc, take_rest, drop-drop, length-drop}
 use Rattle.std.proofs.lemmas.Bool.{ltb-true, ltb-false}
 use Rattle.refusal.specs.declared.Refusal.{Refusal}
 use Rattle.text.specs.Identifier.{Text}
-use Rattle.text.specs.Pieces.{Pieces, split, piece_length}
+use Rattle.text.specs.Pieces.{split, piece_length}
 use Rattle.text.proofs.Splits.{either_way, split_some, last_is, more_is, piece_fits}
 use Rattle.text.proofs.Joins.{pieces_is}
 use Rattle.register.specs.Meaning.{NameMeaning}
 use Rattle.path.specs.declared.path.Path.{Path}
 use Rattle.path.specs.declared.step.Step.{Step}
 use Rattle.path.specs.declared.step.Step.TheVariants.{Enter, Take}
-use Rattle.path.specs.Path.{ToModule, Stops, followed_by, Leads, Lacks, Reaches, Resolves, Strays}
+use Rattle.path.specs.Path.{Stops, followed_by, Leads, Lacks, Reaches, Resolves, Strays}
 use Rattle.path.specs.Steps.{StepsTo, ResolvesTo, of_pieces, PiecesLead}
 use Rattle.path.proofs.Walks.{leads_push}
 

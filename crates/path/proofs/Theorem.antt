@@ -1,5 +1,5 @@
 -- Words from an order's first on have exactly one lawful path, or exactly one first fault.
-use Rattle.std.proofs.Common.{◌≡◌, ℕ, Bool, true, false, List, [], ◌∷◌, Ok, Err, Result, sym, refl, ap, ◌∙◌}
+use Rattle.std.proofs.Common.{◌≡◌, true, false, List, [], ◌∷◌, Ok, Err, Result, sym, refl, ap, ◌∙◌}
 use Rattle.std.proofs.lemmas.Bool.{true≢false}
 use Rattle.refusal.specs.declared.Refusal.{Refusal}
 use Rattle.text.specs.Identifier.{Text}
@@ -8,7 +8,7 @@ use Rattle.text.proofs.Splits.{either_way}
 use Rattle.text.proofs.Joins.{pieces_is, pieces_formed, pieces_does, unclosed_is, unclosed_does}
 use Rattle.register.specs.Meaning.{NameMeaning}
 use Rattle.path.specs.declared.path.Path.{Path}
-use Rattle.path.specs.Path.{Modulepath, Meant, Gives, LawfulPath, PathFault, PathAnswer, OnlyAnswer}
+use Rattle.path.specs.Path.{Modulepath, Meant, Gives, PathFault, PathAnswer, OnlyAnswer}
 use Rattle.path.specs.Steps.{ResolvesTo, of_words, of_pieces, TextAnswer}
 use Rattle.path.proofs.Model.{whole, meant_of, text_path, path_of}
 use Rattle.path.proofs.Walks.{resolves_is, strays_is, whole_does}

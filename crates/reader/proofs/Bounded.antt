@@ -1,24 +1,22 @@
 -- The words of faults and values, and how many values words give, in the model of the reading. Assumes nothing.
-use Rattle.std.proofs.Common.{◌≡◌, ℕ, zero, suc, ◌+◌, ◌≤◌, Bool, true, false, cond, not, ◌&&◌, eqb, ltb, List, [], ◌∷◌, ◌++◌, map, length, drop, Some, None, Ok, Err, Option, Result, sym, refl, ap, ◌∙◌, subst, arith, length-append}
+use Rattle.std.proofs.Common.{◌≡◌, ℕ, suc, ◌+◌, ◌≤◌, Bool, true, false, cond, not, ◌&&◌, eqb, List, [], ◌∷◌, ◌++◌, length, Some, None, Option, refl, ap, arith, length-append}
 use Rattle.std.specs.Str.{bytes_eq}
 use Rattle.refusal.specs.declared.Refusal.{Refusal}
 use Rattle.refusal.specs.Told.{told_of}
 use Rattle.text.specs.Identifier.{Text}
 use Rattle.text.specs.Line.{closed}
-use Rattle.register.specs.Meaning.{NameMeaning, ParameterMeaning, SignatureMeaning}
+use Rattle.register.specs.Meaning.{NameMeaning, ParameterMeaning}
 use Rattle.judge.specs.Meaning.{JudgeMeaning}
 use Rattle.path.specs.Path.{Modulepath, word_behind, Gives, Stops, Lacks, Strays, PathFault}
-use Rattle.path.specs.declared.path.Path.{Path}
 use Rattle.reading.specs.Signature.{takes_true, is_option, any_option}
 use Rattle.reading.specs.Switches.{Switch, Called, called, end_mark, is_dashed, name, attached, switches}
 use Rattle.reading.specs.Reading.{Value, Waiting, true_text, group, is_full, is_missing, is_checked, at_least, at_most, accepted}
 use Rattle.reading.specs.Reading.Waiting.{Nobody, For}
-use Rattle.reading.specs.Model.{Did, State, Next, Scanned, Ordered, give, last_step, then_step, run, is_nil, plain_step, end_step, switched, switch_step, free_step, value_step, step_by, step, at_line_end, on_step, scan, started, taker, else!, first_of, check_option, any_missing, check_plain, check_pattern, check_group, check_sound, tally, tallied, scanned, read_order}
+use Rattle.reading.specs.Model.{Did, State, Next, Scanned, Ordered, give, last_step, then_step, run, is_nil, plain_step, end_step, switched, switch_step, free_step, value_step, step_by, step, at_line_end, on_step, scan, started, taker, else!, first_of, check_option, any_missing, check_pattern, check_sound, tally, tallied, scanned, read_order}
 use Rattle.reading.specs.Model.Did.{Gave, Wrong}
 use Rattle.reading.specs.Model.Next.{Go, Stop, Fail}
 use Rattle.reading.specs.Model.Scanned.{Stopped, Broken}
 use Rattle.reading.specs.Model.Ordered.{Took, Refuses}
-use Rattle.reading.specs.declared.role.Role.{Role}
 use Rattle.reading.specs.declared.role.Role.TheVariants.{SwitchWord, SwitchValue, EndMark, PlainWord}
 use Rattle.reading.proofs.Bounds.{switches_few}
 

@@ -1,5 +1,5 @@
 -- Steps of the counts of an order. Assumes nothing.
-use Rattle.std.proofs.Common.{◌≡◌, ℕ, suc, ◌+◌, ◌<◌, ◌≤◌, Bool, true, false, cond, not, ◌&&◌, ◌||◌, eqb, leb, List, [], ◌∷◌, map, length, get_or, drop, Some, None, Option, sym, refl, ap, ◌∙◌, subst, add-one, arith}
+use Rattle.std.proofs.Common.{◌≡◌, ℕ, suc, ◌+◌, ◌<◌, Bool, true, false, cond, not, ◌&&◌, ◌||◌, eqb, List, [], ◌∷◌, map, length, get_or, drop, Some, None, Option, sym, refl, ap, ◌∙◌, add-one}
 use Rattle.std.proofs.lemmas.List.{at_drop_more}
 use Rattle.std.proofs.lemmas.Bool.{eq-eqb, ne_eqb, cond-true, cond-false, and_left, and_right, and_from}
 use Rattle.refusal.specs.declared.Refusal.{Refusal}
@@ -11,7 +11,7 @@ use Rattle.register.specs.declared.parameter.Parameter.{Parameter}
 use Rattle.judge.specs.Meaning.{JudgeMeaning}
 use Rattle.reading.specs.Signature.{is_option}
 use Rattle.reading.specs.Reading.{Value, group, filled, is_missing, is_checked, at_least, at_most}
-use Rattle.reading.specs.Model.{else!, first_of, check_option, check_pattern, check_group, check_sound, any_missing}
+use Rattle.reading.specs.Model.{else!, first_of, check_option, check_pattern, check_sound, any_missing}
 use Rattle.reader.specs.Bare.{bare_option, bare_may_be_empty}
 use Rattle.reader.specs.Meaning.{source_text, value_of, any_to}
 use Rattle.reader.specs.Counts.{count_to, first_rejected, missing_row}

@@ -1,9 +1,9 @@
 -- The first letter of a text, and the letters behind it. Assumes nothing.
-use Rattle.std.proofs.Common.{◌≡◌, ℕ, zero, suc, ◌+◌, ◌-◌, ◌*◌, ◌<◌, ◌≤◌, List, [], ◌∷◌, length, get_or, take, drop, sym, refl, ap, ◌∙◌, arith}
-use Rattle.std.specs.Str.{continuation_len, lead_bits}
+use Rattle.std.proofs.Common.{◌≡◌, ℕ, zero, suc, ◌+◌, ◌-◌, ◌*◌, [], ◌∷◌, length, get_or, take, drop, refl, arith}
+use Rattle.std.specs.Str.{lead_bits}
 use Rattle.text.specs.Identifier.{Text}
 use Rattle.reading.specs.Letters.{letters_from, letters}
-use Rattle.reader.specs.Meaning.{with_tail, letter_code, letter_length}
+use Rattle.reader.specs.Meaning.{with_tail, letter_code}
 
 pub code_one : (t : Text) → length t ≡ 1 → letter_code t ≡ lead_bits (get_or t 0 0)
 code_one [] h = absurd (omega arith)

@@ -1,5 +1,5 @@
 -- Steps of the loop over the letters of a switch word. Assumes nothing.
-use Rattle.std.proofs.Common.{◌≡◌, ℕ, zero, suc, ◌+◌, ◌<◌, ◌≤◌, min, Bool, true, false, cond, eqb, List, [], ◌∷◌, map, length, take, drop, Some, None, Ok, Err, Option, Result, sym, refl, ap, ◌∙◌, subst, add-one, arith, length-take}
+use Rattle.std.proofs.Common.{◌≡◌, ℕ, zero, suc, ◌+◌, ◌<◌, ◌≤◌, Bool, true, false, cond, eqb, List, [], ◌∷◌, map, length, take, drop, Some, None, Option, sym, refl, ap, ◌∙◌, add-one, arith, length-take}
 use Rattle.std.specs.Str.{continuation_len, lead_bits}
 use Rattle.std.proofs.lemmas.List.{drop_all, drop-drop, length-drop}
 use Rattle.std.proofs.lemmas.Bool.{eqb-true, eqb-false}
@@ -9,11 +9,11 @@ use Rattle.register.specs.Meaning.{ParameterMeaning}
 use Rattle.reading.specs.Signature.{takes_true}
 use Rattle.reading.specs.Letters.{letters}
 use Rattle.register.specs.Parameters.{letter_place}
-use Rattle.reading.specs.Switches.{Switch, Called, called, called_at}
+use Rattle.reading.specs.Switches.{Called, called, called_at}
 use Rattle.reading.specs.Switches.Switch.{Letter}
 use Rattle.reading.specs.Reading.{Value, Waiting, is_full}
-use Rattle.reading.specs.Reading.Waiting.{Nobody, For}
-use Rattle.reading.specs.Model.{Did, last_step, then_step, run}
+use Rattle.reading.specs.Reading.Waiting.{Nobody}
+use Rattle.reading.specs.Model.{Did, then_step, run}
 use Rattle.reading.specs.Model.Did.{Gave, Wrong}
 use Rattle.reading.proofs.Unroll.{run_last, run_more}
 use Rattle.reader.specs.Meaning.{letter_code, letter_length}

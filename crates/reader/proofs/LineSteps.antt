@@ -1,5 +1,5 @@
 -- Steps of reading a line order by order. Assumes nothing.
-use Rattle.std.proofs.Common.{◌≡◌, ℕ, ◌+◌, ◌<◌, Bool, true, false, cond, ◌&&◌, ltb, List, [], ◌∷◌, ◌++◌, map, length, drop, Some, None, Ok, Err, Result, sym, refl, ap, ◌∙◌, subst, append_assoc, append-nil}
+use Rattle.std.proofs.Common.{◌≡◌, ℕ, ◌+◌, ◌<◌, Bool, true, false, cond, ◌&&◌, ltb, List, [], ◌∷◌, ◌++◌, map, length, drop, Some, None, Ok, Err, Result, sym, refl, ap, ◌∙◌, append_assoc, append-nil}
 use Rattle.refusal.specs.declared.Refusal.{Refusal}
 use Rattle.refusal.specs.declared.Refusal.TheVariants.{DefaultRecipeRequiresArguments}
 use Rattle.refusal.specs.Shift.{shifted_by}
@@ -10,8 +10,8 @@ use Rattle.path.specs.Path.{PathAnswer, LawfulPath}
 use Rattle.path.specs.declared.path.Path.{Path}
 use Rattle.path.proofs.Theorem.{the_only}
 use Rattle.reading.specs.Signature.{required_count}
-use Rattle.reading.specs.Line.{Order, Reading, OnlyReading}
-use Rattle.reading.specs.Model.{State, Ordered, order_then, walked, line_from, read_line, read_order, behind, pushed, onto, nothing, told_order, told_roles}
+use Rattle.reading.specs.Line.{Order, Reading}
+use Rattle.reading.specs.Model.{State, Ordered, order_then, walked, line_from, read_order, behind, pushed, nothing, told_order, told_roles}
 use Rattle.reading.specs.Model.Ordered.{Took, Refuses}
 use Rattle.reading.specs.declared.role.Role.{Role}
 use Rattle.reading.proofs.Lines.{line_unrolls}

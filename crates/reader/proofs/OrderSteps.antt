@@ -1,5 +1,5 @@
 -- Steps of reading one order. Assumes nothing.
-use Rattle.std.proofs.Common.{◌≡◌, ℕ, zero, suc, ◌+◌, ◌≤◌, List, [], ◌∷◌, ◌++◌, map, length, take, drop, Some, None, Ok, Err, Option, Result, sym, refl, ap, ◌∙◌, subst, arith, length-append}
+use Rattle.std.proofs.Common.{◌≡◌, ℕ, zero, suc, ◌+◌, ◌≤◌, List, [], ◌∷◌, length, drop, Some, None, Ok, Err, Option, Result, sym, ap, ◌∙◌, arith, length-append}
 use Rattle.std.proofs.lemmas.List.{drop-map, drop-drop}
 use Rattle.refusal.specs.declared.Refusal.{Refusal}
 use Rattle.text.specs.Identifier.{Text}
@@ -9,7 +9,7 @@ use Rattle.text.specs.declared.span.Span.{Span}
 use Rattle.register.specs.Meaning.{SignatureMeaning}
 use Rattle.judge.specs.Meaning.{JudgeMeaning}
 use Rattle.path.specs.declared.path.Path.{Path}
-use Rattle.reading.specs.Model.{State, Scanned, Ordered, started, scan, tally, tallied, scanned, read_order}
+use Rattle.reading.specs.Model.{State, started, scan, tally, tallied, scanned, read_order}
 use Rattle.reading.specs.Model.Ordered.{Took, Refuses}
 use Rattle.reading.specs.declared.role.Role.{Role}
 use Rattle.reader.specs.Meaning.{values_of}

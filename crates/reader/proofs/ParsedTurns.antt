@@ -1,23 +1,21 @@
 -- Steps of reading a line by orders that are handed out, each told to a taker that never refuses. Assumes nothing.
-use Rattle.std.proofs.Common.{◌≡◌, ℕ, ◌+◌, ◌<◌, Bool, true, false, cond, ◌&&◌, ltb, List, [], ◌∷◌, ◌++◌, map, length, drop, Some, None, Ok, Err, Result, sym, refl, ap, ◌∙◌, subst, append_assoc, append-nil}
+use Rattle.std.proofs.Common.{◌≡◌, ℕ, ◌+◌, List, [], ◌∷◌, ◌++◌, drop, Ok, Err, Result, sym, ap, ◌∙◌, subst}
 use Rattle.refusal.specs.declared.Refusal.{Refusal}
-use Rattle.refusal.specs.declared.Refusal.TheVariants.{DefaultRecipeRequiresArguments}
 use Rattle.refusal.specs.Shift.{shifted_by}
 use Rattle.text.specs.Identifier.{Text}
-use Rattle.register.specs.Meaning.{NameMeaning, ParameterMeaning, SignatureMeaning}
+use Rattle.register.specs.Meaning.{NameMeaning, SignatureMeaning}
 use Rattle.judge.specs.Meaning.{JudgeMeaning}
 use Rattle.path.specs.Path.{PathAnswer, LawfulPath}
 use Rattle.path.specs.declared.path.Path.{Path}
 use Rattle.path.proofs.Model.{path_of}
-use Rattle.path.proofs.Theorem.{answer_does, the_only}
-use Rattle.reading.specs.Signature.{required_count}
-use Rattle.reading.specs.Line.{Order, Reading, OnlyReading}
-use Rattle.reading.specs.Model.{State, Ordered, order_then, walked, line_from, read_line, read_order, behind, pushed, onto, nothing, told_order, told_roles}
-use Rattle.reading.specs.Model.Ordered.{Took, Refuses}
+use Rattle.path.proofs.Theorem.{answer_does}
+use Rattle.reading.specs.Line.{Reading, OnlyReading}
+use Rattle.reading.specs.Model.{line_from, read_line, behind, nothing}
+use Rattle.reading.specs.Model.Ordered.{Refuses}
 use Rattle.reading.specs.declared.role.Role.{Role}
-use Rattle.reading.proofs.Lines.{line_unrolls, model_only}
-use Rattle.reading.proofs.Unroll.{behind_onto, behind_nothing}
-use Rattle.std.proofs.lemmas.List.{drop-drop, at_drop_more}
+use Rattle.reading.proofs.Lines.{model_only}
+use Rattle.reading.proofs.Unroll.{behind_nothing}
+use Rattle.std.proofs.lemmas.List.{drop-drop}
 use Rattle.text.specs.Spans.{texts_at}
 use Rattle.text.specs.declared.span.Span.{Span}
 use Rattle.reader.specs.Meaning.{held}
@@ -26,8 +24,8 @@ use Rattle.reader.specs.Scans.{held_roles}
 use Rattle.reader.specs.declared.source.ValueRow.{ValueRow}
 use Rattle.reader.specs.declared.roles.Roles.{Roles}
 use Rattle.reader.specs.declared.parsed.Parsed.{Parsed}
-use Rattle.reader.specs.Orders.{unless, order_by, ordered_of}
-use Rattle.reader.specs.Told.{ToldOrder, order_told, roles_told, all_roles_told, reading_told}
+use Rattle.reader.specs.Orders.{order_by, ordered_of}
+use Rattle.reader.specs.Told.{ToldOrder, reading_told}
 use Rattle.reader.specs.Rest.{left_from}
 use Rattle.reader.proofs.LineSteps.{told_pushed, turn_goes, turn_fails}
 

@@ -1,5 +1,5 @@
 -- Steps of the loop over the words of an order. Assumes nothing.
-use Rattle.std.proofs.Common.{◌≡◌, ℕ, suc, ◌+◌, ◌<◌, ◌≤◌, List, [], ◌∷◌, ◌++◌, map, length, get_or, drop, Some, None, Ok, Err, Option, Result, sym, refl, ap, ◌∙◌, subst, arith, length-append}
+use Rattle.std.proofs.Common.{◌≡◌, ℕ, suc, ◌+◌, ◌<◌, ◌≤◌, List, [], ◌∷◌, ◌++◌, length, get_or, drop, Some, None, Ok, Err, Option, Result, sym, ap, ◌∙◌, length-append}
 use Rattle.std.proofs.lemmas.List.{at_drop_more, at_drop_all}
 use Rattle.refusal.specs.declared.Refusal.{Refusal}
 use Rattle.text.specs.Line.{closed}
@@ -7,7 +7,7 @@ use Rattle.text.specs.Spans.{text_at, texts_at}
 use Rattle.text.specs.declared.span.Span.{Span}
 use Rattle.register.specs.Meaning.{ParameterMeaning}
 use Rattle.reading.specs.Reading.{Waiting}
-use Rattle.reading.specs.Model.{State, Next, Scanned, step, scan, on_step, at_line_end}
+use Rattle.reading.specs.Model.{State, Next, step, scan, on_step, at_line_end}
 use Rattle.reading.specs.Model.Scanned.{Stopped, Broken}
 use Rattle.reading.specs.declared.role.Role.{Role}
 use Rattle.reader.specs.Steps.{state_of, next_of}

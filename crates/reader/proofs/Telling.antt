@@ -1,5 +1,5 @@
 -- An order that was read, as a taker is told it. Assumes nothing.
-use Rattle.std.proofs.Common.{◌≡◌, ℕ, zero, suc, ◌+◌, ◌<◌, ◌≤◌, Bool, true, false, cond, ◌&&◌, ltb, List, [], ◌∷◌, ◌++◌, map, length, drop, Some, None, Ok, Err, Option, Result, sym, refl, ap, ◌∙◌, subst, append-nil, arith, length-append, length-drop}
+use Rattle.std.proofs.Common.{◌≡◌, ℕ, ◌+◌, ◌<◌, ◌≤◌, Bool, true, false, cond, ◌&&◌, ltb, List, [], ◌∷◌, ◌++◌, length, drop, Some, None, Ok, Err, Result, sym, ap, ◌∙◌, subst, arith, length-append, length-drop}
 use Rattle.std.proofs.lemmas.List.{length-map, drop-map, drop-drop}
 use Rattle.refusal.specs.declared.Refusal.{Refusal}
 use Rattle.refusal.specs.declared.Refusal.TheVariants.{DefaultRecipeRequiresArguments}
@@ -10,22 +10,20 @@ use Rattle.text.specs.Spans.{text_at, texts_at}
 use Rattle.text.specs.declared.span.Span.{Span}
 use Rattle.register.specs.Meaning.{NameMeaning, SignatureMeaning}
 use Rattle.judge.specs.Meaning.{JudgeMeaning}
-use Rattle.path.specs.Path.{PathAnswer, LawfulPath}
+use Rattle.path.specs.Path.{PathAnswer}
 use Rattle.path.specs.declared.path.Path.{Path}
-use Rattle.path.proofs.Model.{path_of}
-use Rattle.path.proofs.Theorem.{answer_does, the_only}
 use Rattle.path.proofs.Follows.{lawful_takes}
 use Rattle.reading.specs.Signature.{required_count}
 use Rattle.reading.specs.Line.{repeated}
 use Rattle.reading.proofs.Bounds.{repeated_many}
-use Rattle.reading.specs.Model.{State, Ordered, read_order}
-use Rattle.reading.specs.Model.Ordered.{Took, Refuses}
+use Rattle.reading.specs.Model.{Ordered, read_order}
+use Rattle.reading.specs.Model.Ordered.{Refuses}
 use Rattle.reading.specs.declared.role.Role.{Role}
 use Rattle.reading.specs.declared.role.Role.TheVariants.{PathWord}
-use Rattle.reader.specs.Meaning.{held, value_of, values_of}
+use Rattle.reader.specs.Meaning.{held, value_of}
 use Rattle.reader.specs.Steps.{state_of}
 use Rattle.reader.specs.Scans.{held_roles}
-use Rattle.reader.specs.Orders.{default_fault, unless, order_by, parsed_order}
+use Rattle.reader.specs.Orders.{unless, order_by, parsed_order}
 use Rattle.reader.specs.Told.{ToldOrder, roles_told, all_roles_told, values_told, Fits, UpTo}
 use Rattle.reader.specs.declared.source.ValueRow.{ValueRow}
 use Rattle.reader.specs.declared.invocation_parser.InvocationParser.{InvocationParser}

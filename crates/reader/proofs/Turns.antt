@@ -1,5 +1,5 @@
 -- Orders told one after the other, to the line's end. Assumes nothing.
-use Rattle.std.proofs.Common.{◌≡◌, ℕ, ◌+◌, ◌<◌, ◌≤◌, Bool, ◌⊎◌, List, [], ◌∷◌, ◌++◌, length, drop, Ok, Err, Result, sym, refl, ap, ◌∙◌, subst, inl, inr, arith}
+use Rattle.std.proofs.Common.{◌≡◌, ℕ, ◌<◌, ◌≤◌, Bool, List, [], ◌∷◌, ◌++◌, length, Ok, Err, Result, sym, refl, ap, ◌∙◌, subst, inl, inr, arith}
 use Rattle.std.proofs.lemmas.List.{at_drop_all}
 use Rattle.refusal.specs.declared.Refusal.{Refusal}
 use Rattle.text.specs.Identifier.{Text}
@@ -12,11 +12,11 @@ use Rattle.path.specs.declared.path.Path.{Path}
 use Rattle.path.proofs.Model.{path_of}
 use Rattle.path.proofs.Theorem.{answer_does}
 use Rattle.reading.specs.Line.{Reading, OnlyReading}
-use Rattle.reading.specs.Model.{line_from, read_line, behind}
+use Rattle.reading.specs.Model.{read_line, behind}
 use Rattle.reading.proofs.Lines.{model_only}
 use Rattle.reading.proofs.Unroll.{behind_nothing}
 use Rattle.reader.specs.Told.{ToldOrder, reading_told, UpTo}
-use Rattle.reader.specs.Rest.{left_from, Walks, Continues, NextTold, SoFar, AllTold, LineTold}
+use Rattle.reader.specs.Rest.{left_from, Walks, NextTold, SoFar, AllTold, LineTold}
 use Rattle.reader.proofs.LineSteps.{left_more}
 
 module _ (names : NameMeaning) (s : SignatureMeaning) (judge : JudgeMeaning) (refuses : Refusal → Bool) (before after : List ℕ → List ToldOrder → Type 0) (bytes : List ℕ) (words : List Span) where

@@ -1,5 +1,5 @@
 -- Steps of reading one word of an order. Assumes nothing.
-use Rattle.std.proofs.Common.{◌≡◌, ℕ, suc, ◌+◌, ◌<◌, ◌≤◌, Bool, true, false, cond, not, ◌&&◌, List, [], ◌∷◌, ◌++◌, map, Some, None, Ok, Err, Option, Result, sym, refl, ap, ◌∙◌, subst, add-one, arith}
+use Rattle.std.proofs.Common.{◌≡◌, ℕ, suc, ◌+◌, ◌≤◌, true, false, not, ◌&&◌, List, [], ◌∷◌, ◌++◌, map, Some, None, Ok, Err, Option, Result, sym, ap, ◌∙◌, add-one, arith}
 use Rattle.std.specs.Str.{bytes_eq}
 use Rattle.std.proofs.lemmas.Bool.{cond-true, cond-false}
 use Rattle.refusal.specs.declared.Refusal.{Refusal}
@@ -13,12 +13,12 @@ use Rattle.reading.specs.Switches.{Called, called_at, end_mark, is_dashed}
 use Rattle.reading.specs.Reading.{Value}
 use Rattle.reading.specs.Reading.Waiting.{Nobody, For}
 use Rattle.reading.specs.Model.{State, Next, taker, plain_step, end_step, switch_step, free_step, value_step, step_by}
-use Rattle.reading.specs.Model.Next.{Go, Stop, Fail}
+use Rattle.reading.specs.Model.Next.{Go, Fail}
 use Rattle.reading.specs.declared.role.Role.{Role}
 use Rattle.reading.specs.declared.role.Role.TheVariants.{SwitchValue, PlainWord}
 use Rattle.reader.specs.Meaning.{held, value_of, values_of}
 use Rattle.reader.specs.Answers.{Shows, Calls, wait_at, waiting_of, full_rows}
-use Rattle.reader.specs.Steps.{state_of, Grows, GrowsBy}
+use Rattle.reader.specs.Steps.{state_of, Grows}
 use Rattle.reader.specs.declared.called.Called as code
 use Rattle.reader.specs.declared.source.Source.TheVariants.{Part}
 use Rattle.reader.specs.declared.source.ValueRow.{ValueRow}

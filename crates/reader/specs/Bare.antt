@@ -1,5 +1,5 @@
 -- What the marks of a parameter mean where its texts are left out. Assumes nothing.
-use Rattle.std.specs.Prelude.{Bool, true, false, not, ◌&&◌, ◌||◌, is_some}
+use Rattle.std.specs.Prelude.{Bool, not, ◌&&◌, ◌||◌, is_some}
 use Rattle.register.specs.declared.parameter.Parameter.{Parameter}
 use Rattle.reading.specs.Signature.{is_star, above_zero}
 

@@ -1,5 +1,5 @@
 -- What the reader's rows and answers mean in the model of the reading. Assumes nothing.
-use Rattle.std.specs.Prelude.{◌≡◌, ℕ, suc, ◌+◌, ◌-◌, ◌*◌, min, Bool, true, false, cond, List, [], ◌∷◌, map, length, take, ◌==◌}
+use Rattle.std.specs.Prelude.{ℕ, suc, ◌+◌, ◌-◌, ◌*◌, min, Bool, true, false, cond, List, [], ◌∷◌, map, length, take, ◌==◌}
 use Rattle.std.specs.Str.{continuation_len, lead_bits}
 use Rattle.text.specs.Identifier.{Text}
 use Rattle.text.specs.Spans.{text_at}

@@ -1,5 +1,5 @@
 -- What all words of an order come to, in the model of the reading. Assumes nothing.
-use Rattle.std.specs.Prelude.{◌≡◌, ℕ, ◌+◌, ◌≤◌, List, [], ◌∷◌, length, take, drop, Ok, Err, Result}
+use Rattle.std.specs.Prelude.{ℕ, List, take, drop, Ok, Err, Result}
 use Rattle.refusal.specs.declared.Refusal.{Refusal}
 use Rattle.text.specs.Spans.{texts_at}
 use Rattle.text.specs.declared.span.Span.{Span}

@@ -1,9 +1,8 @@
 -- How many roles, orders and values a reading has. Assumes nothing.
-use Rattle.std.proofs.Common.{◌≡◌, ℕ, zero, suc, ◌+◌, ◌-◌, ◌*◌, ◌<◌, ◌≤◌, max, Bool, true, false, cond, eqb, List, [], ◌∷◌, ◌++◌, map, length, drop, Some, None, Option, sym, refl, ap, ◌∙◌, subst, arith, length-append}
+use Rattle.std.proofs.Common.{◌≡◌, ℕ, zero, suc, ◌+◌, ◌-◌, ◌*◌, ◌<◌, ◌≤◌, max, Bool, true, false, eqb, List, [], ◌∷◌, ◌++◌, map, length, drop, Some, None, Option, refl, ap, subst, arith, length-append}
 use Rattle.std.specs.Str.{continuation_len, lead_bits}
 use Rattle.std.proofs.lemmas.List.{length-drop, length-map}
 use Rattle.std.proofs.lemmas.Bool.{eqb-true, ne_eqb}
-use Rattle.refusal.specs.declared.Refusal.{Refusal}
 use Rattle.text.specs.Identifier.{Text}
 use Rattle.text.specs.Line.{closed, Within}
 use Rattle.register.specs.Meaning.{NameMeaning, SignatureMeaning, ParameterMeaning}
@@ -12,9 +11,9 @@ use Rattle.path.proofs.Follows.{lawful_takes}
 use Rattle.reading.specs.Letters.{letters_from, letters}
 use Rattle.reading.specs.Signature.{takes_true}
 use Rattle.reading.specs.Switches.{Switch, Called, called, two_dashes, tail, undashed, up_to_equals, name, attached, spelled, switches}
-use Rattle.reading.specs.Reading.{Given, Value, Waiting, true_text, group, reached, words_of, roles_of, attached_to, switch_gives, run_gives, value_for, role_gives, wants, values}
+use Rattle.reading.specs.Reading.{Given, Value, Waiting, group, reached, words_of, roles_of, attached_to, switch_gives, run_gives, value_for, role_gives, wants, values}
 use Rattle.reading.specs.Reading.Waiting.{Nobody, For}
-use Rattle.reading.specs.Line.{Taken, Order, Reading, size, shifted_value, groups_from, order_of, orders_of, repeated, all_roles, Begins, Cut, Lawful}
+use Rattle.reading.specs.Line.{Taken, Reading, size, shifted_value, groups_from, order_of, orders_of, repeated, all_roles, Begins, Cut, Lawful}
 use Rattle.reading.specs.Stands.{groups_total, values_total, ReadingsFit}
 use Rattle.reading.specs.declared.role.Role.{Role}
 use Rattle.reading.specs.declared.role.Role.TheVariants.{PathWord, SwitchWord, SwitchValue, EndMark, PlainWord}

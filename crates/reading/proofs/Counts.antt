@@ -1,14 +1,14 @@
 -- The counts: each rule of the parameters is the graph of a check. Assumes nothing.
-use Rattle.std.proofs.Common.{◌≡◌, ℕ, zero, suc, Bool, true, false, cond, ◌&&◌, ◌||◌, List, [], ◌∷◌, ◌++◌, length, Some, None, Option, sym, refl, ap, ◌∙◌, subst, arith}
+use Rattle.std.proofs.Common.{◌≡◌, ℕ, suc, Bool, true, false, cond, List, [], ◌∷◌, length, Some, None, Option, sym, refl, ◌∙◌, subst}
 use Rattle.std.proofs.lemmas.Bool.{or_parts}
 use Rattle.refusal.specs.declared.Refusal.{Refusal}
-use Rattle.refusal.specs.declared.Refusal.TheVariants.{MissingOption, PositionalArgumentCountMismatch, ArgumentTooFewValues, ArgumentTooManyValues, ArgumentPatternMismatch}
+use Rattle.refusal.specs.declared.Refusal.TheVariants.{PositionalArgumentCountMismatch, ArgumentPatternMismatch}
 use Rattle.register.specs.Meaning.{ParameterMeaning}
 use Rattle.judge.specs.Meaning.{JudgeMeaning}
 use Rattle.reading.specs.Signature.{Each, is_option, required_plain}
-use Rattle.reading.specs.Reading.{Given, Value, group, values, plains, is_missing, is_checked, Served, at_least, at_most, accepted, all_accepted, Proper, Sound}
+use Rattle.reading.specs.Reading.{Given, Value, group, values, plains, is_missing, is_checked, Served, at_least, at_most, accepted, all_accepted, Sound}
 use Rattle.reading.specs.Faults.{First, OptionServed, OptionMissing, Rejected, Unsound, Miscounted}
-use Rattle.reading.specs.Model.{else!, first_of, check_option, any_missing, check_plain, check_pattern, check_group, check_sound, tally}
+use Rattle.reading.specs.Model.{else!, first_of, check_option, any_missing, check_plain, check_pattern, check_sound, tally}
 use Rattle.reading.proofs.Runs.{split, clash}
 
 -- a check's answer, with its reason

@@ -1,12 +1,11 @@
 -- The letters of a text are its characters. Assumes nothing.
-use Rattle.std.proofs.Common.{◌≡◌, ℕ, zero, suc, ◌+◌, ◌-◌, ◌*◌, ◌<◌, ◌≤◌, List, [], ◌∷◌, ◌++◌, take, drop, sym, refl, ap, ◌∙◌, subst, arith}
-use Rattle.std.specs.Str.{continuation_len, lead_bits}
+use Rattle.std.proofs.Common.{◌≡◌, ℕ, ◌<◌, ◌≤◌, List, [], ◌∷◌, ◌++◌, take, drop, sym, refl, ap, ◌∙◌, arith}
 use Rattle.std.proofs.lemmas.List.{take_at, drop_at}
 use Rattle.std.proofs.lemmas.Bool.{lt-ltb, le-ltb}
 use Rattle.text.specs.Identifier.{Text}
-use Rattle.text.specs.Utf8.{From, Tail, Char}
+use Rattle.text.specs.Utf8.{Char}
 use Rattle.text.specs.Lead.{front}
-use Rattle.text.proofs.Grammar.{Fronted, front_char}
+use Rattle.text.proofs.Grammar.{front_char}
 use Rattle.reading.specs.Letters.{letters_from, letters, code}
 
 -- a finished letter, and what follows

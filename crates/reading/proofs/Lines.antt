@@ -1,5 +1,5 @@
 -- A line has one lawful reading or one first fault, and the model answers it. Assumes nothing.
-use Rattle.std.proofs.Common.{◌≡◌, ℕ, zero, suc, ◌+◌, ◌-◌, ◌<◌, ◌≤◌, Bool, true, false, cond, ◌&&◌, ltb, List, [], ◌∷◌, ◌++◌, length, drop, Ok, Err, Result, sym, refl, ap, ◌∙◌, subst, le_of_suc-le-suc, not-suc-le-zero, arith, length-append}
+use Rattle.std.proofs.Common.{◌≡◌, ℕ, zero, suc, ◌+◌, ◌<◌, Bool, true, false, cond, ◌&&◌, ltb, List, [], ◌∷◌, ◌++◌, length, drop, Ok, Err, Result, sym, refl, ap, ◌∙◌, subst, not-suc-le-zero, arith, length-append}
 use Rattle.std.proofs.lemmas.List.{length-drop}
 use Rattle.std.proofs.lemmas.Bool.{lt-ltb, le-ltb, ltb-true, ltb-false}
 use Rattle.refusal.specs.declared.Refusal.{Refusal}
@@ -8,18 +8,17 @@ use Rattle.refusal.specs.declared.Refusal.TheVariants.{DefaultRecipeRequiresArgu
 use Rattle.text.specs.Identifier.{Text}
 use Rattle.register.specs.Meaning.{NameMeaning, SignatureMeaning, ParameterMeaning}
 use Rattle.judge.specs.Meaning.{JudgeMeaning}
-use Rattle.path.specs.Path.{LawfulPath, PathFault, PathAnswer, OnlyAnswer}
+use Rattle.path.specs.Path.{LawfulPath, PathAnswer}
 use Rattle.path.specs.declared.path.Path.{Path}
 use Rattle.path.proofs.Follows.{lawful_takes}
 use Rattle.path.proofs.Theorem.{the_only}
 use Rattle.reading.specs.Signature.{required_count}
-use Rattle.reading.specs.Reading.{Given, words_of, LawfulOrder}
-use Rattle.reading.specs.Faults.{FaultyOrder}
-use Rattle.reading.specs.Line.{Taken, Order, Reading, size, order_of, orders_of, all_roles, reading_of, Undemanding, Begins, Cut, Lawful, FaultFrom, FirstFault, ReadingAnswer, OnlyReading}
-use Rattle.reading.specs.Model.{State, state_of, Ordered, read_order, told_order, told_roles, nothing, onto, order_then, walked, lines, line_from, read_line}
+use Rattle.reading.specs.Reading.{words_of}
+use Rattle.reading.specs.Line.{Taken, Reading, size, order_of, orders_of, all_roles, Undemanding, Begins, Cut, FaultFrom, ReadingAnswer, OnlyReading}
+use Rattle.reading.specs.Model.{State, state_of, Ordered, read_order, told_order, told_roles, onto, order_then, walked, lines, line_from, read_line}
 use Rattle.reading.specs.Model.Ordered.{Took, Refuses}
-use Rattle.reading.proofs.Runs.{split, clash}
-use Rattle.reading.proofs.Orders.{order_is, fault_is, Taking, Reads, order_does}
+use Rattle.reading.proofs.Runs.{clash}
+use Rattle.reading.proofs.Orders.{order_is, fault_is, Reads, order_does}
 
 -- the test for a default that demands arguments
 calm : (ps : List ParameterMeaning) (default : Bool) → Undemanding ps default → (default && ltb 0 (required_count ps)) ≡ false

@@ -1,5 +1,5 @@
 -- One order behind its path: the rules' order is the graph of the model's. Assumes nothing.
-use Rattle.std.proofs.Common.{◌≡◌, ℕ, ◌⊎◌, List, [], ◌∷◌, ◌++◌, Some, None, Option, sym, refl, ap, ◌∙◌, subst, inl, inr}
+use Rattle.std.proofs.Common.{◌≡◌, ℕ, ◌⊎◌, List, [], ◌++◌, Some, None, Option, sym, refl, ap, ◌∙◌, subst, inl, inr}
 use Rattle.refusal.specs.declared.Refusal.{Refusal}
 use Rattle.text.specs.Identifier.{Text}
 use Rattle.register.specs.Meaning.{ParameterMeaning}
@@ -9,7 +9,7 @@ use Rattle.reading.specs.Faults.{Faulty, Miscounted, FaultyOrder}
 use Rattle.reading.specs.Model.{State, state_of, started, Scanned, scan, tally, Ordered, tallied, scanned, read_order}
 use Rattle.reading.specs.Model.Scanned.{Stopped, Broken}
 use Rattle.reading.specs.Model.Ordered.{Took, Refuses}
-use Rattle.reading.proofs.Words.{ends_is, faulty_is, roles_is, Stops, Breaks, Scans, scan_does}
+use Rattle.reading.proofs.Words.{ends_is, faulty_is, roles_is, Scans, scan_does}
 use Rattle.reading.proofs.Counts.{Says, Counted, counted_is, miscounted_is, tally_does}
 
 module _ (ps : List ParameterMeaning) (judge : JudgeMeaning) (n : ℕ) where

@@ -1,11 +1,11 @@
 -- The switches of one word: the rules' run is the graph of the model's. Assumes nothing.
-use Rattle.std.proofs.Common.{◌≡◌, ℕ, zero, suc, Bool, true, false, cond, List, [], ◌∷◌, ◌++◌, Some, None, Option, sym, refl, ap, ◌∙◌, subst, append_assoc, append-nil, arith}
+use Rattle.std.proofs.Common.{◌≡◌, ℕ, suc, Bool, true, false, List, [], ◌∷◌, ◌++◌, Some, None, Option, refl, ap, ◌∙◌, append_assoc, append-nil, arith}
 use Rattle.refusal.specs.declared.Refusal.{Refusal}
 use Rattle.text.specs.Identifier.{Text}
 use Rattle.register.specs.Meaning.{ParameterMeaning}
 use Rattle.reading.specs.Signature.{takes_true}
 use Rattle.reading.specs.Switches.{Switch, Called, called}
-use Rattle.reading.specs.Reading.{Value, Waiting, true_text, is_full, unless_attached, last_wants, run_gives, Run}
+use Rattle.reading.specs.Reading.{Value, true_text, is_full, unless_attached, last_wants, run_gives, Run}
 use Rattle.reading.specs.Faults.{Slip}
 use Rattle.reading.specs.Model.{Did, last_step, then_step, run}
 use Rattle.reading.specs.Model.Did.{Gave, Wrong}

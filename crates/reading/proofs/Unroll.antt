@@ -1,8 +1,7 @@
 -- The model on the rest is the model on the whole: what loops over letters, words and orders need. Assumes nothing.
-use Rattle.std.proofs.Common.{◌≡◌, ℕ, zero, suc, ◌+◌, ◌<◌, ◌≤◌, Bool, true, false, cond, not, ◌&&◌, List, [], ◌∷◌, ◌++◌, map, length, Some, None, Ok, Err, Option, Result, sym, refl, ap, ◌∙◌, subst, append_assoc, append-nil, arith, length-append}
+use Rattle.std.proofs.Common.{◌≡◌, ℕ, suc, ◌+◌, ◌≤◌, not, ◌&&◌, List, [], ◌∷◌, ◌++◌, map, length, Some, None, Ok, Err, Option, Result, sym, refl, ap, ◌∙◌, subst, append_assoc, arith, length-append}
 use Rattle.std.specs.Str.{bytes_eq}
 use Rattle.refusal.specs.declared.Refusal.{Refusal}
-use Rattle.refusal.specs.declared.Refusal.TheVariants.{DuplicateOption, InvalidOption}
 use Rattle.text.specs.Identifier.{Text}
 use Rattle.register.specs.Meaning.{ParameterMeaning}
 use Rattle.reading.specs.Letters.{letters}
@@ -12,11 +11,11 @@ use Rattle.reading.specs.Switches.Switch.{Letter}
 use Rattle.reading.specs.Reading.{Value, Waiting, true_text, is_full}
 use Rattle.reading.specs.Reading.Waiting.{Nobody, For}
 use Rattle.reading.specs.Line.{Order, Reading}
-use Rattle.reading.specs.Model.{taker, Did, give, last_step, then_step, run, State, Next, is_nil, plain_step, end_step, switched, switch_step, free_step, value_step, step_by, step, nothing, onto, behind, pushed}
+use Rattle.reading.specs.Model.{taker, Did, give, last_step, then_step, run, State, Next, is_nil, plain_step, switched, switch_step, free_step, value_step, step_by, step, nothing, onto, behind, pushed}
 use Rattle.reading.specs.Model.Did.{Gave, Wrong}
 use Rattle.reading.specs.Model.Next.{Go, Stop, Fail}
 use Rattle.reading.specs.declared.role.Role.{Role}
-use Rattle.reading.proofs.Runs.{split, clash}
+use Rattle.reading.proofs.Runs.{split}
 use Rattle.reading.proofs.Bounds.{switches_few}
 
 -- Letters: the first of those that are left, where it is the last and where more follow.

@@ -1,5 +1,5 @@
 -- The words of one order: the rules' roles are the graph of the model's steps. Assumes nothing.
-use Rattle.std.proofs.Common.{◌≡◌, ℕ, zero, suc, Bool, true, false, cond, ◌&&◌, List, [], ◌∷◌, ◌++◌, Some, None, Option, sym, refl, ap, ◌∙◌, subst, append_assoc, append-nil, arith}
+use Rattle.std.proofs.Common.{◌≡◌, ℕ, zero, suc, Bool, true, false, List, [], ◌∷◌, ◌++◌, Some, None, Option, sym, refl, ap, ◌∙◌, subst, append_assoc, append-nil, arith}
 use Rattle.std.specs.Option.{option_map}
 use Rattle.std.specs.Str.{bytes_eq}
 use Rattle.std.proofs.lemmas.Slice.Eq.{bytes_eq-Decides}
@@ -9,7 +9,7 @@ use Rattle.register.specs.Meaning.{ParameterMeaning}
 use Rattle.reading.specs.Letters.{letters_from, letters}
 use Rattle.reading.specs.Signature.{Takes, Homeless, is_option, is_variadic}
 use Rattle.reading.specs.Signature.Takes.{pass, first, further, next}
-use Rattle.reading.specs.Switches.{Switch, Called, end_mark, is_dashed, name, attached, switches, spelled, two_dashes}
+use Rattle.reading.specs.Switches.{Switch, end_mark, is_dashed, name, attached, switches, spelled, two_dashes}
 use Rattle.reading.specs.Reading.{Given, Value, Waiting, is_full, reached, wants, values, plains, words_of, reads_switches, NoSwitch, IsSwitch, Fits, Roles, Ends}
 use Rattle.reading.specs.Reading.Waiting.{Nobody, For}
 use Rattle.reading.specs.Faults.{Faulty}
@@ -18,8 +18,7 @@ use Rattle.reading.specs.Model.Did.{Gave, Wrong}
 use Rattle.reading.specs.Model.Next.{Go, Stop, Fail}
 use Rattle.reading.specs.Model.Scanned.{Stopped, Broken}
 use Rattle.reading.specs.declared.role.Role.{Role}
-use Rattle.reading.specs.declared.role.Role.TheVariants.{PathWord, SwitchWord, SwitchValue, EndMark, PlainWord}
-use Rattle.reading.proofs.Runs.{split, clash, ran, run_is, slip_is, Why, run_does}
+use Rattle.reading.proofs.Runs.{split, clash, run_is, slip_is, Why, run_does}
 
 -- Plain words.
 

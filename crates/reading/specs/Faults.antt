@@ -1,5 +1,5 @@
 -- The first fault of the words of one order behind its path: all before it keeps the rules, and here one breaks. Words are counted within the order. Assumes nothing.
-use Rattle.std.specs.Prelude.{◌≡◌, ℕ, suc, Bool, true, false, ◌⊎◌, List, [], ◌∷◌, ◌++◌, length, Some, None, Option, ◌≢◌}
+use Rattle.std.specs.Prelude.{◌≡◌, ℕ, suc, true, false, ◌⊎◌, List, [], ◌∷◌, ◌++◌, length, Some, None, Option, ◌≢◌}
 use Rattle.refusal.specs.declared.Refusal.{Refusal}
 use Rattle.refusal.specs.declared.Refusal.TheVariants.{InvalidOption, UnknownOption, FlagWithValue, NonFinalOptionWithValue, OptionMissingValue, DuplicateOption, MissingOption, PositionalArgumentCountMismatch, ArgumentTooFewValues, ArgumentTooManyValues, ArgumentPatternMismatch}
 use Rattle.text.specs.Identifier.{Text}
@@ -7,7 +7,7 @@ use Rattle.register.specs.Meaning.{ParameterMeaning}
 use Rattle.judge.specs.Meaning.{JudgeMeaning}
 use Rattle.reading.specs.Signature.{Each, is_option, takes_true, required_plain}
 use Rattle.reading.specs.Switches.{Switch, Called, called, name, attached, switches}
-use Rattle.reading.specs.Reading.{Given, Value, Waiting, true_text, group, is_full, reached, wants, values, plains, words_of, IsSwitch, Roles, Ends, is_missing, Served, is_checked, at_least, at_most, accepted, all_accepted, Sound}
+use Rattle.reading.specs.Reading.{Given, Value, true_text, group, is_full, reached, wants, values, plains, words_of, IsSwitch, Roles, Ends, is_missing, Served, is_checked, at_least, at_most, accepted, Sound}
 use Rattle.reading.specs.Reading.Waiting.{For}
 
 -- The first fault of a run of switches in word `at`, counted from letter j.

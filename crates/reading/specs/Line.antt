@@ -1,5 +1,5 @@
 -- The lawful reading of a line, and its first fault. Assumes nothing.
-use Rattle.std.specs.Prelude.{◌≡◌, ℕ, zero, suc, ◌+◌, ◌<◌, Bool, true, false, List, [], ◌∷◌, ◌++◌, map, length, drop, Ok, Err, Result}
+use Rattle.std.specs.Prelude.{◌≡◌, ℕ, zero, suc, ◌+◌, ◌<◌, Bool, true, List, [], ◌∷◌, ◌++◌, map, drop, Ok, Err, Result}
 use Rattle.path.specs.Path.{LawfulPath, PathFault}
 use Rattle.path.specs.declared.path.Path.{Path}
 use Rattle.refusal.specs.declared.Refusal.{Refusal}

@@ -3,7 +3,7 @@ use Rattle.std.specs.Prelude.{◌≡◌, ℕ, suc, Bool, true, false, cond, not,
 use Rattle.text.specs.Identifier.{Text}
 use Rattle.register.specs.Meaning.{ParameterMeaning}
 use Rattle.judge.specs.Meaning.{JudgeMeaning}
-use Rattle.reading.specs.Signature.{Takes, Homeless, Each, any_option, is_option, takes_true, holds_several, may_be_empty}
+use Rattle.reading.specs.Signature.{Takes, Homeless, Each, any_option, takes_true, holds_several, may_be_empty}
 use Rattle.reading.specs.Switches.{Switch, Called, called, end_mark, is_dashed, name, attached, switches}
 use Rattle.reading.specs.declared.role.Role.{Role}
 use Rattle.reading.specs.declared.role.Role.TheVariants.{PathWord, SwitchWord, SwitchValue, EndMark, PlainWord}

@@ -9,7 +9,7 @@ use Rattle.path.specs.Path.{PathAnswer}
 use Rattle.path.specs.declared.path.Path.{Path}
 use Rattle.reading.specs.Reading.{Value}
 use Rattle.reading.specs.Line.{Order, Reading, Lawful, OnlyReading}
-use Rattle.reading.specs.Model.{State, Next, step, walked, line_from, read_line}
+use Rattle.reading.specs.Model.{State, step, walked, line_from, read_line}
 use Rattle.reading.specs.Model.Next.{Go}
 use Rattle.reading.specs.declared.role.Role.{Role}
 

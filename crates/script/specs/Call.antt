@@ -1,6 +1,5 @@
 -- The lines of a script.
 use Rattle.std.specs.Prelude.{◌≡◌, ℕ, suc, ◌+◌, ◌-◌, ◌*◌, ◌≤◌, Bool, true, cond, ◌&&◌, List, [], ◌∷◌, ◌++◌, map, length, IfSome, Some, None, codes, Option, MatchOption, ◌==◌, nat_le}
-use Rattle.std.specs.Option.{option_flatten, option_map}
 use Rattle.std.specs.Str.{bytes_eq}
 use Rattle.script.specs.declared.call.Call.{Call}
 use Rattle.script.specs.declared.call.Verb.{Verb}

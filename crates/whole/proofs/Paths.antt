@@ -1,5 +1,5 @@
 -- Each module is reached by exactly one path. Assumes nothing.
-use Rattle.std.proofs.Common.{◌≡◌, ℕ, zero, suc, ◌+◌, ◌<◌, ◌⊎◌, List, [], ◌∷◌, ◌++◌, sym, refl, ap, ◌∙◌, subst, inl, inr, arith}
+use Rattle.std.proofs.Common.{◌≡◌, ℕ, zero, suc, ◌<◌, ◌⊎◌, List, [], ◌∷◌, ◌++◌, sym, refl, ap, ◌∙◌, subst, inl, inr, arith}
 use Rattle.tree.specs.Tree.{Name}
 use Rattle.whole.specs.Places.{Stands}
 use Rattle.whole.specs.Modules.{Leads, NamedOnce, EachNamedOnce, Down, Path, OnePath, Rising, EachReached}

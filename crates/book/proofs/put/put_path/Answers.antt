@@ -1,4 +1,4 @@
-use Rattle.std.proofs.Common.{◌≡◌, ◌+◌, length, ◌∙◌, arith, length-set}
+use Rattle.std.proofs.Common.{◌+◌, ◌∙◌, arith, length-set}
 use Rattle.reading.specs.declared.role.Role.TheVariants.{PathWord}
 use Rattle.book.proofs.Puts.{put_same}
 use Rattle.book.proofs.put.put_path.Goals as goal

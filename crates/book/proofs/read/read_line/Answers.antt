@@ -1,5 +1,5 @@
-use Rattle.std.proofs.Common.{◌≡◌, ℕ, false, List, subst}
-use Rattle.text.specs.Lines.{bytes_of, words_of}
+use Rattle.std.proofs.Common.{ℕ, false, List, subst}
+use Rattle.text.specs.Lines.{words_of}
 use Rattle.reader.specs.Rest.{LineTold}
 use Rattle.book.specs.Holds.{Holds}
 use Rattle.book.proofs.Keeping.{reads, rows}

@@ -1,4 +1,4 @@
-use Rattle.std.proofs.Common.{sym, refl, subst}
+use Rattle.std.proofs.Common.{refl}
 use Rattle.image.proofs.Facts.{Facts, facts_checked, loads_from}
 use Rattle.image.proofs.load.load.Goals as goal
 

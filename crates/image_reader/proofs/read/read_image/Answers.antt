@@ -1,4 +1,3 @@
-use Rattle.std.proofs.Common.{◌≡◌}
 use Rattle.judges.specs.Chosen.{chosen_accepts}
 use Rattle.image.specs.Loads.{names_in, signatures_in}
 use Rattle.book.specs.Kept.{kept_orders, kept_roles}

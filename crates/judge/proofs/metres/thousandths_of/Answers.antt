@@ -1,4 +1,4 @@
-use Rattle.std.proofs.Common.{◌≡◌, ◌-◌, ◌*◌, ◌^◌, ◌≤◌, length, sym, ap, ◌∙◌, mul-one, arith}
+use Rattle.std.proofs.Common.{◌≡◌, ◌-◌, ◌*◌, ◌^◌, length, sym, ap, ◌∙◌, mul-one, arith}
 use Rattle.judge.specs.Metres.{Fraction, decimal}
 use Rattle.judge.proofs.Agreement.{fraction_does}
 use Rattle.judge.proofs.metres.thousandths_of.Goals as goal

@@ -1,10 +1,8 @@
-use Rattle.std.proofs.Common.{◌≡◌, ℕ, ◌+◌, ◌<◌, ◌≤◌, Bool, true, false, not, ◌&&◌, ◌||◌, List, length, drop, None, sym, refl, ap, ◌∙◌, arith, rules}
-use Rattle.std.proofs.lemmas.Bool.{or_left, or_right, and_from, and_left, and_right}
-use Rattle.register.specs.Meaning.{ParameterMeaning}
-use Rattle.reading.specs.Signature.{any_option, is_option, required, required_count, required_plain}
-use Rattle.reading.specs.Model.{taker}
-use Rattle.reader.specs.Bare.{bare_option, bare_required}
-use Rattle.reader.proofs.Places.{There, there, gone, onward, onward_zero, taker_passes, taker_first, taker_further, taker_next, counts, counts_not}
+use Rattle.std.proofs.Common.{◌+◌, Bool, ◌||◌, drop, sym, ap, ◌∙◌, arith, rules}
+use Rattle.std.proofs.lemmas.Bool.{or_left}
+use Rattle.reading.specs.Signature.{any_option}
+use Rattle.reader.specs.Bare.{bare_option}
+use Rattle.reader.proofs.Places.{there, gone}
 use Rattle.reader.proofs.signature.has_options.Goals as goal
 
 pub overflow_add-place : goal.overflow_add-place

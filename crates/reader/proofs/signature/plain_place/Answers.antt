@@ -1,10 +1,7 @@
-use Rattle.std.proofs.Common.{◌≡◌, ℕ, ◌+◌, ◌<◌, ◌≤◌, Bool, true, false, not, ◌&&◌, ◌||◌, List, length, drop, None, sym, refl, ap, ◌∙◌, arith, rules}
-use Rattle.std.proofs.lemmas.Bool.{or_left, or_right, and_from, and_left, and_right}
+use Rattle.std.proofs.Common.{ℕ, ◌+◌, List, drop, sym, ap, ◌∙◌, arith, rules}
 use Rattle.register.specs.Meaning.{ParameterMeaning}
-use Rattle.reading.specs.Signature.{any_option, is_option, required, required_count, required_plain}
 use Rattle.reading.specs.Model.{taker}
-use Rattle.reader.specs.Bare.{bare_option, bare_required}
-use Rattle.reader.proofs.Places.{There, there, gone, onward, onward_zero, taker_passes, taker_first, taker_further, taker_next, counts, counts_not}
+use Rattle.reader.proofs.Places.{there, gone, onward, onward_zero, taker_passes, taker_first, taker_further, taker_next}
 use Rattle.reader.proofs.signature.plain_place.Goals as goal
 use Rattle.reader.proofs.signature.plain_place.Goals.{then-left-eq0-via-then-left-eq0, then-left-eq0-via-else-left-eq0+then-is_variadic, then-not-is_option+else-left-eq0+else-is_variadic, else-not-is_option}
 

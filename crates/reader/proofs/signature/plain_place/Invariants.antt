@@ -1,5 +1,4 @@
-use Rattle.std.proofs.Common.{◌≡◌, ◌+◌, ◌-◌, ◌≤◌, length, drop}
-use Rattle.reading.specs.Signature.{any_option, required_count, required_plain}
+use Rattle.std.proofs.Common.{◌≡◌, ◌-◌, length, drop}
 use Rattle.reading.specs.Model.{taker}
 use Rattle.reader.proofs.Places.{onward}
 use Rattle.reader.proofs.signature.plain_place.Given as goal

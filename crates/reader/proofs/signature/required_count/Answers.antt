@@ -1,10 +1,7 @@
-use Rattle.std.proofs.Common.{◌≡◌, ℕ, ◌+◌, ◌<◌, ◌≤◌, Bool, true, false, not, ◌&&◌, ◌||◌, List, length, drop, None, sym, refl, ap, ◌∙◌, arith, rules}
-use Rattle.std.proofs.lemmas.Bool.{or_left, or_right, and_from, and_left, and_right}
-use Rattle.register.specs.Meaning.{ParameterMeaning}
-use Rattle.reading.specs.Signature.{any_option, is_option, required, required_count, required_plain}
-use Rattle.reading.specs.Model.{taker}
-use Rattle.reader.specs.Bare.{bare_option, bare_required}
-use Rattle.reader.proofs.Places.{There, there, gone, onward, onward_zero, taker_passes, taker_first, taker_further, taker_next, counts, counts_not}
+use Rattle.std.proofs.Common.{sym, ap, ◌∙◌, arith, rules}
+use Rattle.reading.specs.Signature.{required, required_count}
+use Rattle.reader.specs.Bare.{bare_required}
+use Rattle.reader.proofs.Places.{there, gone, counts, counts_not}
 use Rattle.reader.proofs.signature.required_count.Goals as goal
 use Rattle.reader.proofs.signature.required_count.Goals.{then-is_required, else-is_required}
 

@@ -1,10 +1,8 @@
-use Rattle.std.proofs.Common.{◌≡◌, ℕ, ◌+◌, ◌<◌, ◌≤◌, Bool, true, false, not, ◌&&◌, ◌||◌, List, length, drop, None, sym, refl, ap, ◌∙◌, arith, rules}
-use Rattle.std.proofs.lemmas.Bool.{or_left, or_right, and_from, and_left, and_right}
+use Rattle.std.proofs.Common.{not, ◌&&◌, sym, ap, ◌∙◌, arith, rules}
 use Rattle.register.specs.Meaning.{ParameterMeaning}
-use Rattle.reading.specs.Signature.{any_option, is_option, required, required_count, required_plain}
-use Rattle.reading.specs.Model.{taker}
+use Rattle.reading.specs.Signature.{is_option, required, required_plain}
 use Rattle.reader.specs.Bare.{bare_option, bare_required}
-use Rattle.reader.proofs.Places.{There, there, gone, onward, onward_zero, taker_passes, taker_first, taker_further, taker_next, counts, counts_not}
+use Rattle.reader.proofs.Places.{there, gone, counts, counts_not}
 use Rattle.reader.proofs.signature.required_plain.Goals as goal
 use Rattle.reader.proofs.signature.required_plain.Goals.{then-is_required_plain, else-is_required_plain}
 use Rattle.register.specs.declared.parameter.Parameter.{Parameter}

@@ -1,7 +1,5 @@
 use Rattle.std.proofs.Common.{◌≡◌, ◌+◌, ◌-◌, ◌≤◌, length, drop}
-use Rattle.reading.specs.Signature.{any_option, required_count, required_plain}
-use Rattle.reading.specs.Model.{taker}
-use Rattle.reader.proofs.Places.{onward}
+use Rattle.reading.specs.Signature.{required_plain}
 use Rattle.reader.proofs.signature.required_plain.Given as goal
 
 abbrev pub invariant-loop-parameter : goal.invariant-loop-parameter

@@ -1,4 +1,4 @@
-use Rattle.std.proofs.Common.{sym, ◌∙◌}
+use Rattle.std.proofs.Common.{sym}
 use Rattle.reader.proofs.Applies.{called_there}
 use Rattle.reader.proofs.switch.called_at.Goals as goal
 

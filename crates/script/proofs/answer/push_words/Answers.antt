@@ -1,7 +1,7 @@
-use Rattle.std.proofs.Common.{◌≡◌, ◌++◌, string_bytes, sym, ap, ◌∙◌, arith}
+use Rattle.std.proofs.Common.{◌++◌, string_bytes, ap, ◌∙◌, arith}
 use Rattle.std.proofs.lemmas.List.{take_all}
 use Rattle.text.specs.Spans.{texts_at}
-use Rattle.script.specs.Answer.{listed, word_text}
+use Rattle.script.specs.Answer.{listed}
 use Rattle.script.proofs.Listing.{word_more}
 use Rattle.script.proofs.answer.push_words.Goals as goal
 

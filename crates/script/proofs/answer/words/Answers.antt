@@ -2,7 +2,7 @@ use Rattle.std.proofs.Common.{◌≡◌, ◌++◌, length, string_bytes, codes, 
 use Rattle.std.proofs.lemmas.List.{length-map}
 use Rattle.text.specs.Lines.{bytes_of, words_of}
 use Rattle.text.specs.Spans.{text_at, texts_at}
-use Rattle.script.specs.Answer.{listed, words_text}
+use Rattle.script.specs.Answer.{listed}
 use Rattle.script.proofs.answer.words.Goals as goal
 
 pub returns : goal.returns

@@ -1,4 +1,4 @@
-use Rattle.std.proofs.Common.{◌≡◌, sym, arith}
+use Rattle.std.proofs.Common.{arith}
 use Rattle.script.proofs.Spaces.{space_here, space_later, no_more}
 use Rattle.script.proofs.call.first_space.Goals as goal
 

@@ -1,4 +1,4 @@
-use Rattle.std.proofs.Common.{◌≡◌, ◌+◌, [], length, take, vec_items, sym, ap, ◌∙◌, subst, arith}
+use Rattle.std.proofs.Common.{◌+◌, [], take, vec_items, sym, subst, arith}
 use Rattle.std.proofs.lemmas.List.{take_all}
 use Rattle.script.specs.Hex.{Spells}
 use Rattle.script.proofs.Hexing.{odd, not_high, not_low, one_byte}

@@ -1,4 +1,4 @@
-use Rattle.std.proofs.Common.{◌≡◌, ℕ, ◌+◌, ◌<◌, ◌≤◌, List, length, take, sym, refl, ap, ◌∙◌, subst, arith, rules}
+use Rattle.std.proofs.Common.{refl, arith}
 use Rattle.reader.specs.Told.{ToldOrder}
 use Rattle.book.proofs.Takes.{room, took}
 use Rattle.book.proofs.tables.BookRefusingTaker.take.Goals as goal

@@ -1,11 +1,9 @@
-use Rattle.std.proofs.Common.{◌≡◌, ◌≤◌, length, Ok, Err, sym, refl, ap, ◌∙◌, subst, arith, ltb-false, ltb-true}
+use Rattle.std.proofs.Common.{◌≡◌, ◌≤◌, length, Ok, sym, refl, ap, ◌∙◌, subst, arith, ltb-false, ltb-true}
 use Rattle.std.proofs.lemmas.List.{get_or-replicate}
 use Rattle.std.proofs.lemmas.Result.{err_from_is_err_and}
 use Rattle.book.specs.Kept.{Reads, kept_orders, kept_roles}
-use Rattle.book.specs.declared.fill.Fill.{Fill}
 use Rattle.book.specs.declared.tables.Book.{Book}
 use Rattle.console.specs.Keeps.{view}
-use Rattle.console.specs.History.{Asked}
 use Rattle.console.specs.Right.{TurnsDown}
 use Rattle.console.proofs.Waiting.{busy}
 use Rattle.console.proofs.Admission.{sane, unread_couples, unchanged, turned_down, no_serials, unadmit_led, admit_led}

@@ -1,4 +1,4 @@
-use Rattle.std.proofs.Common.{◌≡◌, ℕ, ◌+◌, ◌≤◌, cond, refl, arith}
+use Rattle.std.proofs.Common.{ℕ, ◌+◌, ◌≤◌, cond, refl, arith}
 use Rattle.console.specs.Keeps.{view}
 use Rattle.console.proofs.Waiting.{withdraws, out_fits}
 use Rattle.console.proofs.Steps.{withdraw_couples}

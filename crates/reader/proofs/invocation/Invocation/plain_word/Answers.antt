@@ -1,4 +1,4 @@
-use Rattle.std.proofs.Common.{sym, refl, arith, rules}
+use Rattle.std.proofs.Common.{sym, refl, arith}
 use Rattle.reader.proofs.WordSteps.{plain_next}
 use Rattle.reader.proofs.invocation.Invocation.plain_word.Goals as goal
 

@@ -1,6 +1,6 @@
-use Rattle.std.proofs.Common.{sym, refl, ap, ◌∙◌, arith}
+use Rattle.std.proofs.Common.{arith}
 use Rattle.text.specs.Spans.{text_at}
-use Rattle.reading.specs.Reading.Waiting.{Nobody, For}
+use Rattle.reading.specs.Reading.Waiting.{Nobody}
 use Rattle.reader.specs.Steps.{state_of}
 use Rattle.reader.proofs.WordSteps.{step_for, grows_more}
 use Rattle.reader.proofs.invocation.Invocation.read_word.Goals as goal

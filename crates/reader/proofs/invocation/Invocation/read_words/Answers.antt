@@ -1,9 +1,9 @@
-use Rattle.std.proofs.Common.{◌≡◌, ℕ, suc, ◌+◌, ◌<◌, ◌≤◌, length, drop, Ok, Err, sym, refl, ap, ◌∙◌, subst, arith}
+use Rattle.std.proofs.Common.{length, Ok, Err, ap, ◌∙◌, subst, arith}
 use Rattle.std.proofs.lemmas.List.{drop_all}
 use Rattle.std.proofs.lemmas.Result.{err_from_is_err_and, IfOk-from_err}
 use Rattle.text.specs.Spans.{texts_at}
 use Rattle.text.specs.declared.span.Span.{Span}
-use Rattle.reading.specs.Model.Scanned.{Stopped, Broken}
+use Rattle.reading.specs.Model.Scanned.{Stopped}
 use Rattle.reading.specs.Reading.Waiting.{Nobody}
 use Rattle.reader.specs.Steps.{state_of, GrowsBy}
 use Rattle.reader.specs.Scans.{held_roles, scanned_of}

@@ -1,4 +1,4 @@
-use Rattle.std.proofs.Common.{◌≡◌, ◌+◌, ◌-◌, ◌≤◌, length, drop}
+use Rattle.std.proofs.Common.{◌≡◌, ◌+◌, ◌≤◌, length, drop}
 use Rattle.text.specs.Line.{closed}
 use Rattle.text.specs.Spans.{texts_at}
 use Rattle.reading.specs.Model.{scan}

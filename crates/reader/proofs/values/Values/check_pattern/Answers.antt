@@ -1,4 +1,4 @@
-use Rattle.std.proofs.Common.{List, Some, None, sym, ap, ◌∙◌}
+use Rattle.std.proofs.Common.{List, sym, ap, ◌∙◌}
 use Rattle.reading.specs.Reading.{group}
 use Rattle.reading.specs.Model.{check_pattern}
 use Rattle.reader.specs.Meaning.{held, values_of}

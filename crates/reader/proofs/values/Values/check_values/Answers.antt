@@ -1,12 +1,10 @@
-use Rattle.std.proofs.Common.{◌≡◌, ℕ, ◌+◌, ◌<◌, ◌≤◌, Bool, true, false, List, length, drop, Some, None, Ok, Err, Option, sym, refl, ap, ◌∙◌, arith, rules}
+use Rattle.std.proofs.Common.{Err, sym, ap, ◌∙◌, arith, rules}
 use Rattle.std.proofs.lemmas.Result.{err_from_is_err_and}
-use Rattle.refusal.specs.declared.Refusal.{Refusal}
-use Rattle.register.specs.Meaning.{ParameterMeaning}
-use Rattle.reading.specs.Model.{else!, first_of, check_option, check_plain, check_sound, any_missing}
-use Rattle.reader.specs.Meaning.{held, values_of}
+use Rattle.reading.specs.Model.{first_of, check_sound}
+use Rattle.reader.specs.Meaning.{values_of}
 use Rattle.reader.specs.Counts.{fault_of}
 use Rattle.reader.proofs.Places.{there, gone}
-use Rattle.reader.proofs.Counting.{first_pass, first_hit, option_missing, no_option, option_there, missing_hit, missing_pass}
+use Rattle.reader.proofs.Counting.{first_pass, first_hit}
 use Rattle.reader.proofs.values.Values.check_values.Goals as goal
 
 pub overflow_add-place : goal.overflow_add-place

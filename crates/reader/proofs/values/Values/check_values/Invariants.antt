@@ -1,5 +1,5 @@
-use Rattle.std.proofs.Common.{◌≡◌, ℕ, ◌-◌, List, length, drop}
-use Rattle.reading.specs.Model.{first_of, check_option, check_sound, any_missing}
+use Rattle.std.proofs.Common.{◌≡◌, ◌-◌, length, drop}
+use Rattle.reading.specs.Model.{first_of, check_sound}
 use Rattle.reader.specs.Meaning.{values_of}
 use Rattle.reader.proofs.values.Values.check_values.Given as goal
 

@@ -1,7 +1,7 @@
 -- What a book keeps of a reading that it was told. Assumes nothing.
 use Rattle.std.proofs.Common.{◌≡◌, ℕ, ◌+◌, ◌-◌, ◌≤◌, false, List, [], ◌∷◌, ◌++◌, map, length, take, drop, Ok, Err, Result, sym, refl, ap, ◌∙◌, subst, inl, inr, arith, take-take}
 use lib.Seq.{take-append-le}
-use Rattle.std.specs.List.{AllByRecursion as All}
+use Rattle.std.specs.List.{AllByRecursion}
 use Rattle.std.proofs.lemmas.List.{take_all, length-map, drop-drop, drop-take}
 use Rattle.refusal.specs.declared.Refusal.{Refusal}
 use Rattle.text.specs.Identifier.{Text}
@@ -65,7 +65,7 @@ module _ (s : SignatureMeaning) (bytes : List ℕ) (vs : List ValueRow) where
       ap (λ (x : Order). x ∷ map (told_as s) (map (row_kept bytes vs) (rows_from (from + length o.values) os))) (kept_row from o front)
       ∙ ap (λ (l : List Order). order_told s bytes o ∷ l) (kept_rows (from + length o.values) os (ap (take (values_told os)) (sym (drop-drop (length o.values) from vs)) ∙ back))
 
-rows_within : (from : ℕ) (os : List ToldOrder) → from + values_told os ≤ 1024 → All RowWithin (rows_from from os)
+rows_within : (from : ℕ) (os : List ToldOrder) → from + values_told os ≤ 1024 → AllByRecursion RowWithin (rows_from from os)
 rows_within from [] h = tt
 rows_within from (o ∷ os) h = ((omega arith, omega arith), rows_within (from + length o.values) os (omega arith))
 
@@ -91,5 +91,5 @@ module _ (names : NameMeaning) (s : SignatureMeaning) (judge : JudgeMeaning) (li
       let h = t.1 in let f = t.2 in let a = f.orders in let b = f.words in let d = f.values in
       let i = h.many in let j = h.words in let k = h.size in let l = within.short in
       let some : 1 ≤ length t.0 = orders_some names s judge words line t.0 t.3.right in
-      (h.line, omega arith, omega arith, omega arith, omega arith, subst (All RowWithin) (sym h.orders) (rows_within 0 t.0 (omega arith)))
+      (h.line, omega arith, omega arith, omega arith, omega arith, subst (AllByRecursion RowWithin) (sym h.orders) (rows_within 0 t.0 (omega arith)))
   rows (Err f) t = tt

@@ -1,6 +1,6 @@
 -- What a book keeps: orders with every value in sequence, and how that is the reading of a line. Assumes nothing.
 use Rattle.std.specs.Prelude.{◌≡◌, ℕ, ◌-◌, ◌≤◌, ◌⊎◌, List, map, take, drop, Ok, Err, Result}
-use Rattle.std.specs.List.{AllByRecursion as All}
+use Rattle.std.specs.List.{AllByRecursion}
 use Rattle.refusal.specs.declared.Refusal.{Refusal}
 use Rattle.text.specs.Identifier.{Text}
 use Rattle.text.specs.Line.{Within, Oversteps}
@@ -50,5 +50,5 @@ abbrev pub RowWithin : OrderRow → Type 0
 RowWithin row = (row.from ≤ row.to) × (row.to ≤ 1024)
 
 abbrev pub Rows : {U : Type 0} → List ℕ → Book → Result U Refusal → Type 0
-Rows line book (Ok u) = (take book.fill.bytes book.bytes ≡ line) × (book.fill.bytes ≤ 1024) × (1 ≤ book.fill.orders) × (book.fill.orders ≤ 128) × (book.fill.words ≤ 128) × All RowWithin (take book.fill.orders book.orders)
+Rows line book (Ok u) = (take book.fill.bytes book.bytes ≡ line) × (book.fill.bytes ≤ 1024) × (1 ≤ book.fill.orders) × (book.fill.orders ≤ 128) × (book.fill.words ≤ 128) × AllByRecursion RowWithin (take book.fill.orders book.orders)
 Rows line book (Err f) = Unit {0}

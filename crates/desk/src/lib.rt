@@ -26,7 +26,7 @@ use std::io::{BufRead, BufReader};
 use text::line::Line;
 
 mod options;
-mod tree;
+mod tree_calls;
 
 const HELP: &str =
     "words W W W            cut a line of these words, with single spaces between them
@@ -159,9 +159,9 @@ fn respond<R: Register, J: Judge>(
             cut(heap, &mut session.tally, bytes.as_slice())
         }
         Some(Verb::WordsHex) => cut_hex(heap, &mut session.tally, or_empty(rest)),
-        Some(Verb::Find) => tree::find(heap, register, or_empty(rest)),
-        Some(Verb::Recipe) => tree::recipe(heap, register, or_empty(rest)),
-        Some(Verb::Judge) => tree::judge(heap, judge, or_empty(rest)),
+        Some(Verb::Find) => tree_calls::find(heap, register, or_empty(rest)),
+        Some(Verb::Recipe) => tree_calls::recipe(heap, register, or_empty(rest)),
+        Some(Verb::Judge) => tree_calls::judge(heap, judge, or_empty(rest)),
         Some(Verb::Help) => String::from_str(heap, HELP),
         None => match reading_call::called(name) {
             Some(asked) => on_reading(heap, register, judge, session, asked, rest),

@@ -1,7 +1,7 @@
 -- From what the check finds of the derived rows to what a register over them carries in its type.
 use Rattle.std.proofs.Common.{◌≡◌, ℕ, zero, suc, List, [], ◌∷◌, map, Some, None, Option, unwrap_or, sym, refl, ap, ◌∙◌, subst, inl, inr, arith}
 use Rattle.std.specs.Option.{option_map, option_flatten}
-use Rattle.std.specs.List.{AllByRecursion as All, slice_get}
+use Rattle.std.specs.List.{AllByRecursion, slice_get}
 use Rattle.std.proofs.lemmas.Option.{slice_get-map}
 use Rattle.std.proofs.ByRecursion.{All-get_or}
 use Rattle.text.specs.Spans.{text_at}
@@ -116,5 +116,5 @@ module _ (image : List ℕ) (recipes : List RecipeRow) where
       let s = a.3 in
       (a.0, a.1, a.2, (let e = s.recipe in let f = s.letter in let k : letter_key image a.1 ≡ r ∷ c ∷ [] = cc in k), s.place)
 
-pub few_from : (recipes : List RecipeRow) → All RecipeTidy recipes → Few recipes
+pub few_from : (recipes : List RecipeRow) → AllByRecursion RecipeTidy recipes → Few recipes
 few_from recipes a r d h = (All-get_or RecipeTidy recipes r d h a).few

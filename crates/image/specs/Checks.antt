@@ -1,6 +1,6 @@
 -- What the tree check answers, and what it leaves in the tables. Assumes nothing.
 use Rattle.std.specs.Prelude.{◌≡◌, ℕ, ◌≤◌, List, map, length, drop, Result, MatchResult}
-use Rattle.std.specs.List.{AllByRecursion as All}
+use Rattle.std.specs.List.{AllByRecursion}
 use Rattle.refusal.specs.declared.Refusal.{Refusal}
 use Rattle.tree.specs.Rows.{recipe_at}
 use Rattle.records.specs.TreeRows.{RecipeTidy, PatternTidy}
@@ -38,8 +38,8 @@ pub record Says (image : List ℕ) (t : Tables) : Type 0 where
   pub patterns : ZeroBehind t.sizes.patterns t.patterns zero.patterns
   pub longs_behind : ZeroBehind t.sizes.longs t.longs zero.longs
   pub letters_behind : ZeroBehind t.sizes.letters t.letters zero.letters
-  pub tidy_recipes : All RecipeTidy (recipes_in t)
-  pub tidy_patterns : All PatternTidy (patterns_in t)
+  pub tidy_recipes : AllByRecursion RecipeTidy (recipes_in t)
+  pub tidy_patterns : AllByRecursion PatternTidy (patterns_in t)
 
 -- accepted with the tree that the image says, or refused by the first failing check with all rows zero
 abbrev pub Checks : List ℕ → Result Sizes Refusal → Tables → Type 0

@@ -1,6 +1,6 @@
 -- The line, invocation by invocation, by just and by the model.
 use Rattle.std.proofs.Common.{◌≡◌, ℕ, zero, suc, ◌+◌, ◌-◌, ◌<◌, ◌≤◌, Bool, true, false, cond, ◌&&◌, eqb, ltb, List, [], ◌∷◌, map, length, drop, Ok, Err, Option, Result, sym, refl, ap, ◌∙◌, subst, arith, length-drop}
-use Rattle.std.specs.List.{AllByRecursion as All}
+use Rattle.std.specs.List.{AllByRecursion}
 use Rattle.std.proofs.lemmas.List.{drop-drop}
 use Rattle.std.proofs.lemmas.Bool.{eq-eqb, ne_eqb}
 use Rattle.refusal.specs.declared.Refusal.{Refusal}
@@ -47,11 +47,11 @@ pub record Readable (w : Text) : Type 0 where
   pub spelt : Spelt w
   pub pieced : Pieced w
 
-all_spelt : (ws : List Text) → All Readable ws → All Spelt ws
+all_spelt : (ws : List Text) → AllByRecursion Readable ws → AllByRecursion Spelt ws
 all_spelt [] h = tt
 all_spelt (w ∷ ws) h = (h.0.spelt, all_spelt ws h.1)
 
-pub all_drop : {X : Type 0} (P : X → Type 0) (n : ℕ) (xs : List X) → All P xs → All P (drop n xs)
+pub all_drop : {X : Type 0} (P : X → Type 0) (n : ℕ) (xs : List X) → AllByRecursion P xs → AllByRecursion P (drop n xs)
 all_drop P zero xs h = h
 all_drop P (suc n) [] h = tt
 all_drop P (suc n) (x ∷ xs) h = all_drop P n xs h.1
@@ -93,7 +93,7 @@ module _ (t : Tree) (good : Good t) (judge : JudgeMeaning) (arguments : List Tex
   just fuel next = parse_from judge (justfiles_of t) arguments fuel next
 
   abbrev Alike : ℕ → Type 0
-  Alike fuel = (next : ℕ) (ws : List Text) → drop next arguments ≡ ws → next ≤ length arguments → All Readable ws → length ws < fuel → of_just (just fuel next) ≡ of_reading (model fuel next ws)
+  Alike fuel = (next : ℕ) (ws : List Text) → drop next arguments ≡ ws → next ≤ length arguments → AllByRecursion Readable ws → length ws < fuel → of_just (just fuel next) ≡ of_reading (model fuel next ws)
 
   -- what is done with an invocation
   abbrev goes : ℕ → Result Invocation Error → Result (List Invocation) Error
@@ -102,7 +102,7 @@ module _ (t : Tree) (good : Good t) (judge : JudgeMeaning) (arguments : List Tex
       push_invocation invocation
       (elim (eqb invocation.next (length arguments)) [ true ↦ Ok [] | false ↦ just fuel invocation.next ])
 
-  module _ (fuel : ℕ) (on : Alike fuel) (next : ℕ) (ws : List Text) (here : drop next arguments ≡ ws) (fits : next ≤ length arguments) (readable : All Readable ws) (enough : length ws < suc fuel) (p : Path) (takes : Takes (length ws) p) where
+  module _ (fuel : ℕ) (on : Alike fuel) (next : ℕ) (ws : List Text) (here : drop next arguments ≡ ws) (fits : next ≤ length arguments) (readable : AllByRecursion Readable ws) (enough : length ws < suc fuel) (p : Path) (takes : Takes (length ws) p) where
     abbrev found : Resolved
     found = record { recipe = recipe_at t p.recipe; consumed = p.words }
 
@@ -152,7 +152,7 @@ module _ (t : Tree) (good : Good t) (judge : JudgeMeaning) (arguments : List Tex
           let less : (next + p.words) + l.i ≤ length arguments = omega arith in
           let there : drop ((next + p.words) + l.i) arguments ≡ x ∷ xs = sym (drop-drop l.i (next + p.words) arguments) ∙ e in
           let same : (next + p.words) + l.i ≡ next + st.words = omega arith in
-          let left : All Readable (x ∷ xs) = subst (All Readable) (ap (drop l.i) rest-is ∙ e) (all_drop Readable l.i (drop p.words ws) (all_drop Readable p.words ws readable)) in
+          let left : AllByRecursion Readable (x ∷ xs) = subst (AllByRecursion Readable) (ap (drop l.i) rest-is ∙ e) (all_drop Readable l.i (drop p.words ws) (all_drop Readable p.words ws readable)) in
           let o : Order = told_order (map meaning ps) next p.recipe st in
           let some : 0 < length ws = let a = long in omega arith in
           let one = takes.least some in
@@ -170,7 +170,7 @@ module _ (t : Tree) (good : Good t) (judge : JudgeMeaning) (arguments : List Tex
     order_told_here : of_just (goes fuel (and_then (parse_arguments judge next found rest) made)) ≡ of_reading (order_then (model fuel) ((tree_signatures t).parameters p.recipe) next p.recipe p.words (read_order ((tree_signatures t).parameters p.recipe) judge p.words (drop p.words ws)))
     order_told_here =
         let apart : Apart (map meaning ps) = subst Apart (recipe_means t p.recipe) (good.apart p.recipe) in
-        let spelt : All Spelt rest = all_spelt rest (subst (All Readable) rest-is (all_drop Readable p.words ws readable)) in
+        let spelt : AllByRecursion Spelt rest = all_spelt rest (subst (AllByRecursion Readable) rest-is (all_drop Readable p.words ws readable)) in
         ordered (read_order (map meaning ps) judge p.words rest) (parse_arguments judge next found rest) (order_does judge next found rest apart spelt)
         ∙ ap (λ (ms : List ParameterMeaning). of_reading (order_then (model fuel) ms next p.recipe p.words (read_order ms judge p.words rest))) (sym (recipe_means t p.recipe))
         ∙ ap (λ (xs : List Text). of_reading (order_then (model fuel) ((tree_signatures t).parameters p.recipe) next p.recipe p.words (read_order ((tree_signatures t).parameters p.recipe) judge p.words xs))) (sym rest-is)
@@ -186,7 +186,7 @@ module _ (t : Tree) (good : Good t) (judge : JudgeMeaning) (arguments : List Tex
     comes true r h = rw h.is (ap (λ (x : Option Refusal). Err x) h.number)
     comes false r h = rw h order_told_here
 
-  walks : (fuel : ℕ) → Alike fuel → (next : ℕ) (ws : List Text) → drop next arguments ≡ ws → next ≤ length arguments → All Readable ws → length ws < suc fuel → (x : Result Path Refusal) → PathAnswer (tree_names t) ws x → (r : Result Resolved Error) → Picks t good next x r →
+  walks : (fuel : ℕ) → Alike fuel → (next : ℕ) (ws : List Text) → drop next arguments ≡ ws → next ≤ length arguments → AllByRecursion Readable ws → length ws < suc fuel → (x : Result Path Refusal) → PathAnswer (tree_names t) ws x → (r : Result Resolved Error) → Picks t good next x r →
       of_just (goes fuel (and_then r λ f. and_then (parse_arguments judge next f (drop (next + f.consumed) arguments)) λ l. Ok (record { recipe = f.recipe; arguments = l.arguments; first = next; next = (next + f.consumed) + l.i }))) ≡ of_reading (walked (tree_signatures t) judge (model fuel) next ws x)
   walks fuel on next ws here fits readable enough (Err f) a r h = rw h.is (ap (λ (x : Option Refusal). Err x) h.number)
   walks fuel on next ws here fits readable enough (Ok p) a r h = comes fuel on next ws here fits readable enough p (lawful_takes (tree_names t) ws p a) (p.default && ltb 0 (required_count ((tree_signatures t).parameters p.recipe))) r h
@@ -195,7 +195,7 @@ module _ (t : Tree) (good : Good t) (judge : JudgeMeaning) (arguments : List Tex
   line_does zero next ws here fits readable enough = absurd (omega arith)
   line_does (suc fuel) next ws here fits readable enough =
       walks fuel (line_does fuel) next ws here fits readable enough (path_of (tree_names t) ws) (answer_does (tree_names t) ws) (recipe_of (justfiles_of t) next arguments)
-      (recipe_does t good next arguments fits ws here (λ w rest e. (subst (All Readable) e readable).0.pieced))
+      (recipe_does t good next arguments fits ws here (λ w rest e. (subst (AllByRecursion Readable) e readable).0.pieced))
 
-  pub whole_does : All Readable arguments → of_just (parse_invocations judge (justfiles_of t) arguments) ≡ of_reading (model (suc (length arguments)) 0 arguments)
+  pub whole_does : AllByRecursion Readable arguments → of_just (parse_invocations judge (justfiles_of t) arguments) ≡ of_reading (model (suc (length arguments)) 0 arguments)
   whole_does readable = line_does (suc (length arguments)) 0 arguments refl (omega arith) readable (omega arith)

@@ -1,6 +1,6 @@
 -- The words of one order behind its path, by just's loop and by the model's scan.
 use Rattle.std.proofs.Common.{◌≡◌, ℕ, zero, suc, ◌+◌, ◌<◌, ◌≤◌, Bool, true, false, not, ◌&&◌, List, [], ◌∷◌, ◌++◌, map, length, drop, Some, None, Ok, Option, Result, sym, refl, ap, ◌∙◌, subst, arith}
-use Rattle.std.specs.List.{AllByRecursion as All, slice_get}
+use Rattle.std.specs.List.{AllByRecursion, slice_get}
 use Rattle.std.specs.Str.{bytes_eq}
 use Rattle.refusal.specs.declared.Refusal.TheVariants as refusal
 use Rattle.text.specs.Identifier.{Text}
@@ -166,12 +166,12 @@ module _ (next path : ℕ) (recipe : Recipe) (rest : List Text) where
       (λ d. rw d (switch_does apart fuel w ws on skip i k plains false ended vs roles here is open! fits d spelt))
       (λ d. rw d (plain_does apart fuel w ws on skip i k plains false ended vs roles here is open! fits)))))
 
-  pub loop_does : Apart (map meaning ps) → (fuel : ℕ) (ws : List Text) → length ws < fuel → All Spelt ws → Goal fuel ws
+  pub loop_does : Apart (map meaning ps) → (fuel : ℕ) (ws : List Text) → length ws < fuel → AllByRecursion Spelt ws → Goal fuel ws
   loop_does apart zero ws h spelt i k plains eoo ended vs roles here is open! fits = absurd (omega arith)
   loop_does apart (suc fuel) [] h spelt i k plains eoo ended vs roles here is open! fits =
       rw (nth_nil rest i here) (record { loop! = loop_at vs eoo i plains; is = refl; arguments = refl; accepted = refl; words = is; left = here; fits = fits })
   loop_does apart (suc fuel) (w ∷ ws) h spelt i k plains eoo ended vs roles here is open! fits =
       rw (nth_cons rest i w ws here).0
       (turn_does apart fuel w ws (loop_does apart fuel ws (omega arith) spelt.1)
-      (λ v more e. loop_does apart fuel more (let n = ap length e in omega arith) (subst (All Spelt) e spelt.1).1)
+      (λ v more e. loop_does apart fuel more (let n = ap length e in omega arith) (subst (AllByRecursion Spelt) e spelt.1).1)
       spelt.0 i k plains eoo ended vs roles here is open! fits)

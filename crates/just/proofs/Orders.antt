@@ -1,6 +1,6 @@
 -- One order behind its path, by just and by the model.
 use Rattle.std.proofs.Common.{◌≡◌, ℕ, suc, ◌+◌, ◌<◌, ◌≤◌, Bool, true, false, not, ◌&&◌, List, [], map, length, Some, None, Ok, Option, Result, sym, refl, ap, ◌∙◌, subst, arith}
-use Rattle.std.specs.List.{AllByRecursion as All}
+use Rattle.std.specs.List.{AllByRecursion}
 use Rattle.refusal.specs.declared.Refusal.{Refusal}
 use Rattle.text.specs.Identifier.{Text}
 use Rattle.judge.specs.Meaning.{JudgeMeaning}
@@ -53,7 +53,7 @@ module _ (judge : JudgeMeaning) (next : ℕ) (found : Resolved) (rest : List Tex
       and_then (check_groups judge (λ word. behind next 0 word 0) recipe.number 0 ps l.arguments) λ _.
       Ok l
 
-  start_does : Apart (map meaning ps) → All Spelt rest → Ends next path recipe rest (scan (map meaning ps) (started path) rest) (loop (behind next path) recipe (long_of ps) (short_of ps) (positional_from 0 ps) rest (suc (length rest)) (start_of ps))
+  start_does : Apart (map meaning ps) → AllByRecursion Spelt rest → Ends next path recipe rest (scan (map meaning ps) (started path) rest) (loop (behind next path) recipe (long_of ps) (short_of ps) (positional_from 0 ps) rest (suc (length rest)) (start_of ps))
   start_does apart spelt =
       let eoo : Bool = table.is_empty (long_of ps) && table.is_empty (short_of ps) in
       let k : path ≡ path + 0 = omega arith in
@@ -84,5 +84,5 @@ module _ (judge : JudgeMeaning) (next : ℕ) (found : Resolved) (rest : List Tex
   scanned_does (Broken f) r h = record { error = h.error; is = ap (λ (y : Result Loop Error). and_then y tail) h.is; number = h.number }
   scanned_does (Stopped st ws) r h = tail_does st ws r h (tally (map meaning ps) judge st.values st.plains) (stop_does st ws r h)
 
-  pub order_does : Apart (map meaning ps) → All Spelt rest → Orders (read_order (map meaning ps) judge path rest) (parse_arguments judge next found rest)
+  pub order_does : Apart (map meaning ps) → AllByRecursion Spelt rest → Orders (read_order (map meaning ps) judge path rest) (parse_arguments judge next found rest)
   order_does apart spelt = scanned_does (scan (map meaning ps) (started path) rest) _ (start_does apart spelt)

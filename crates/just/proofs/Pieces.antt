@@ -1,7 +1,7 @@
 -- A word with colons, by just and by the rules.
 use Rattle.std.proofs.Common.{◌≡◌, ℕ, Bool, true, false, cond, ◌&&◌, ◌||◌, eqb, List, [], ◌∷◌, ◌++◌, is_some, Some, None, Ok, Err, Option, unwrap_or, sym, refl, ap, ◌∙◌, subst, arith}
 use Rattle.std.specs.Option.{option_map}
-use Rattle.std.specs.List.{AllByRecursion as All}
+use Rattle.std.specs.List.{AllByRecursion}
 use Rattle.std.specs.Str.{bytes_eq}
 use Rattle.std.proofs.lemmas.Slice.Eq.{bytes_eq-Decides}
 use Rattle.std.proofs.lemmas.Bool.{and_parts, or_left, ne_eqb, true≢false, false≢true}
@@ -169,9 +169,9 @@ bare (b ∷ c ∷ t) e =
 
 -- each piece of a word is a name by its characters where it is an identifier by its bytes
 abbrev pub Named : Text → Type 0
-Named w = All (λ p. is_name (str.chars p) ≡ identifier p) (split w)
+Named w = AllByRecursion (λ p. is_name (str.chars p) ≡ identifier p) (split w)
 
-names_are : (p : Text) (ps : List Text) → All (λ p. is_name (str.chars p) ≡ identifier p) (p ∷ ps) → all_names (p ∷ ps) ≡ identifiers (p ∷ ps)
+names_are : (p : Text) (ps : List Text) → AllByRecursion (λ p. is_name (str.chars p) ≡ identifier p) (p ∷ ps) → all_names (p ∷ ps) ≡ identifiers (p ∷ ps)
 names_are p [] h = rw h.0 (last (identifier p))
   where
     last : (b : Bool) → (b && true) ≡ b
@@ -182,7 +182,7 @@ names_are p (q ∷ ps) h = rw (h.0, names_are q ps h.1)
 all_names_lem : (w : Text) → Named w → all_names (str.split_colons w) ≡ well_formed w
 all_names_lem w h =
     let s = split_some w in
-    ap all_names (split_is w ∙ s.2) ∙ names_are s.0 s.1 (subst (All (λ p. is_name (str.chars p) ≡ identifier p)) s.2 h) ∙ ap identifiers (sym s.2)
+    ap all_names (split_is w ∙ s.2) ∙ names_are s.0 s.1 (subst (AllByRecursion (λ p. is_name (str.chars p) ≡ identifier p)) s.2 h) ∙ ap identifiers (sym s.2)
 
 colon_first : (w : Text) → well_formed w ≡ true → str.starts_with (58 ∷ []) w ≡ false
 colon_first [] e = refl

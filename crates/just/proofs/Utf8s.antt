@@ -1,6 +1,6 @@
 -- Words of UTF-8: their characters, names and pieces.
 use Rattle.std.proofs.Common.{◌≡◌, ℕ, zero, suc, ◌<◌, ◌≤◌, true, false, ◌&&◌, eqb, List, [], ◌∷◌, ◌++◌, length, drop, sym, refl, ap, ◌∙◌, subst, arith, length-append}
-use Rattle.std.specs.List.{AllByRecursion as All}
+use Rattle.std.specs.List.{AllByRecursion}
 use Rattle.std.specs.Str.{chars_after}
 use Rattle.std.proofs.lemmas.Bool.{lt-ltb, le-ltb, le-leb, lt-leb, ne_eqb, eqb-true, and_parts}
 use Rattle.text.specs.Identifier.{Text, all_follow, identifier}
@@ -56,7 +56,7 @@ chars_are (Utf8.more {char} {rest} c u) = chars_char c rest ∙ ap (λ (cs : Lis
 -- A character is one low byte, or high bytes and a high code point.
 
 abbrev High : List ℕ → Type 0
-High bs = All (λ (b : ℕ). 128 ≤ b) bs
+High bs = AllByRecursion (λ (b : ℕ). 128 ≤ b) bs
 
 data Sort : List ℕ → Type 0 where
   low : (a : ℕ) → a ≤ 127 → Sort (a ∷ [])
@@ -158,7 +158,7 @@ split_high : (bs rest : List ℕ) → High bs → split (bs ++ rest) ≡ before 
 split_high [] rest h = let s = split_some rest in before_none (split rest) s.0 s.1 s.2
 split_high (b ∷ bs) rest h = split_byte b (bs ++ rest) (apart_from b 58 (omega arith) h.0) ∙ ap (onto b) (split_high bs rest h.1) ∙ onto_before b bs (split rest)
 
-before_utf8 : {char : List ℕ} → Char char → (ps : List Text) → All Utf8 ps → Utf8 char → All Utf8 (before char ps)
+before_utf8 : {char : List ℕ} → Char char → (ps : List Text) → AllByRecursion Utf8 ps → Utf8 char → AllByRecursion Utf8 (before char ps)
 before_utf8 c [] h u = (u, tt)
 before_utf8 c (p ∷ ps) h u = (Utf8.more c h.0, h.1)
 
@@ -172,24 +172,24 @@ nil_right (c ∷ cs) = ap (λ (ds : List ℕ). c ∷ ds) (nil_right cs)
 single : {char : List ℕ} → Char char → Utf8 char
 single {char} c = subst Utf8 (nil_right char) (Utf8.more c Utf8.none)
 
-onto_utf8 : (a : ℕ) → a ≤ 127 → (ps : List Text) → All Utf8 ps → All Utf8 (onto a ps)
+onto_utf8 : (a : ℕ) → a ≤ 127 → (ps : List Text) → AllByRecursion Utf8 ps → AllByRecursion Utf8 (onto a ps)
 onto_utf8 a l [] h = (alone a l, tt)
 onto_utf8 a l (p ∷ ps) h = (Utf8.more {char = a ∷ []} (Char.one (record { least = omega arith; most = l })) h.0, h.1)
 
 -- the pieces of a text whose first two bytes are looked at
-front_utf8 : (a : ℕ) (t : Text) → a ≤ 127 → All Utf8 (split t) → ((b : ℕ) (u : Text) → t ≡ b ∷ u → eqb b 58 ≡ true → All Utf8 (split u)) → All Utf8 (split (a ∷ t))
+front_utf8 : (a : ℕ) (t : Text) → a ≤ 127 → AllByRecursion Utf8 (split t) → ((b : ℕ) (u : Text) → t ≡ b ∷ u → eqb b 58 ≡ true → AllByRecursion Utf8 (split u)) → AllByRecursion Utf8 (split (a ∷ t))
 front_utf8 a [] l h two = (alone a l, tt)
 front_utf8 a (b ∷ u) l h two =
     either_way (eqb a 58 && eqb b 58)
     (λ e. rw e (Utf8.none, two b u refl (and_parts (eqb a 58) (eqb b 58) e).1))
     (λ e. rw e (onto_utf8 a l (split (b ∷ u)) h))
 
-pieces_utf8 : (n : ℕ) {t : Text} → Utf8 t → length t < n → All Utf8 (split t)
+pieces_utf8 : (n : ℕ) {t : Text} → Utf8 t → length t < n → AllByRecursion Utf8 (split t)
 pieces_utf8 zero u less = absurd (omega arith)
 pieces_utf8 (suc n) Utf8.none less = (Utf8.none, tt)
 pieces_utf8 (suc n) (Utf8.more {char} {rest} c u) less = go (λ (t : Text) (v : Utf8 t) (l : length t < n). pieces_utf8 n {t = t} v l) c (sort c) less
   where
-    go : ((t : Text) → Utf8 t → length t < n → All Utf8 (split t)) → {char : List ℕ} → Char char → Sort char → length (char ++ rest) < suc n → All Utf8 (split (char ++ rest))
+    go : ((t : Text) → Utf8 t → length t < n → AllByRecursion Utf8 (split t)) → {char : List ℕ} → Char char → Sort char → length (char ++ rest) < suc n → AllByRecursion Utf8 (split (char ++ rest))
     go on c (Sort.low a l) k =
         front_utf8 a rest l (on rest u (omega arith))
         (λ b t e f. let x : b ≡ 58 = eqb-true b 58 f in let m = ap length e in on t (cut_low b t (omega arith) (subst Utf8 e u)) (omega arith))
@@ -197,7 +197,7 @@ pieces_utf8 (suc n) (Utf8.more {char} {rest} c u) less = go (λ (t : Text) (v : 
         let m = length-append bs rest in
         rw (split_high (a ∷ bs) rest h) (before_utf8 c (split rest) (on rest u (omega arith)) (single c))
 
-named_all : (ps : List Text) → All Utf8 ps → All (λ p. is_name (str.chars p) ≡ identifier p) ps
+named_all : (ps : List Text) → AllByRecursion Utf8 ps → AllByRecursion (λ p. is_name (str.chars p) ≡ identifier p) ps
 named_all [] h = tt
 named_all (p ∷ ps) h = (name_is h.0, named_all ps h.1)
 
@@ -238,6 +238,6 @@ unclosed_utf8 w u (Unclosed.bare no!) = u
 pub readable : (w : Text) → Utf8 w → Readable w
 readable w u = record { spelt = spelt w u; pieced = record { whole! = named w u; opened = named (unclosed w) (unclosed_utf8 w u (unclosed_does w)) } }
 
-pub all_readable : (ws : List Text) → All Utf8 ws → All Readable ws
+pub all_readable : (ws : List Text) → AllByRecursion Utf8 ws → AllByRecursion Readable ws
 all_readable [] h = tt
 all_readable (w ∷ ws) h = (readable w h.0, all_readable ws h.1)

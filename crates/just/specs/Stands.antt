@@ -1,6 +1,6 @@
 -- What stands of just's parser. Assumes nothing.
 use Rattle.std.specs.Prelude.{◌≡◌, ℕ, List, Result}
-use Rattle.std.specs.List.{AllByRecursion as All}
+use Rattle.std.specs.List.{AllByRecursion}
 use Rattle.refusal.specs.declared.Refusal.{Refusal}
 use Rattle.text.specs.Identifier.{Text}
 use Rattle.text.specs.Utf8.{Utf8}
@@ -16,4 +16,4 @@ use Rattle.just.specs.Outcome.{of_just, of_reading}
 
 -- Over the tree of every lawful image and by every judge, just answers words of UTF-8 as the rules do: the same orders with the same texts in the same groups, or the same refusal; and it never panics.
 abbrev pub JustStands : Type 0
-JustStands = (image : List ℕ) (t : Tree) → Lawful image t → (judge : JudgeMeaning) (words : List Text) → All Utf8 words → (answer : Result Reading Refusal) → OnlyReading (tree_names t) (tree_signatures t) judge words answer → of_just (parse_invocations judge (justfiles_of t) words) ≡ of_reading answer
+JustStands = (image : List ℕ) (t : Tree) → Lawful image t → (judge : JudgeMeaning) (words : List Text) → AllByRecursion Utf8 words → (answer : Result Reading Refusal) → OnlyReading (tree_names t) (tree_signatures t) judge words answer → of_just (parse_invocations judge (justfiles_of t) words) ≡ of_reading answer

@@ -2,7 +2,7 @@
 use Rattle.std.proofs.Common.{◌≡◌, ℕ, ◌+◌, ◌<◌, ◌≤◌, List, length, take, set, sym, refl, ◌∙◌, subst, arith}
 use Rattle.std.proofs.lemmas.List.{length-set, drop-set-lt, take_more_set}
 use Rattle.std.proofs.ByRecursion.{All-push}
-use Rattle.std.specs.List.{AllByRecursion as All}
+use Rattle.std.specs.List.{AllByRecursion}
 use Rattle.records.specs.TreeRows.{Filled}
 
 module _ {V : Type 0} (places n : ℕ) where
@@ -17,9 +17,9 @@ module _ {V : Type 0} (places n : ℕ) where
     filled_on v = record { fits = f.fits; long = length-set rs i v ∙ f.long; rest = drop-set-lt n rs i v less ∙ f.rest }
 
 -- what holds of each row so far
-module _ {V : Type 0} (P : V → Type 0) (rs : List V) (i : ℕ) (h : All P (take i rs)) where
-  pub all_on : (v : V) → i < length rs → P v → All P (take (i + 1) (set rs i v))
-  all_on v room p = subst (All P) (sym (take_more_set rs i v room)) (All-push P (take i rs) v h p)
+module _ {V : Type 0} (P : V → Type 0) (rs : List V) (i : ℕ) (h : AllByRecursion P (take i rs)) where
+  pub all_on : (v : V) → i < length rs → P v → AllByRecursion P (take (i + 1) (set rs i v))
+  all_on v room p = subst (AllByRecursion P) (sym (take_more_set rs i v room)) (All-push P (take i rs) v h p)
 
-  pub all_end : (n : ℕ) → n ≤ i → i ≤ n → All P (take n rs)
-  all_end n l m = let e : i ≡ n = omega arith in subst (λ k. All P (take k rs)) e h
+  pub all_end : (n : ℕ) → n ≤ i → i ≤ n → AllByRecursion P (take n rs)
+  all_end n l m = let e : i ≡ n = omega arith in subst (λ k. AllByRecursion P (take k rs)) e h

@@ -1,6 +1,6 @@
 // Patterns: listed texts, and a gauge.
 ghost use Rattle.std.specs.Prelude.{◌≤◌, take, IfOk, None, OnOk};
-ghost use Rattle.std.specs.List.{AllByRecursion as All};
+ghost use Rattle.std.specs.List.{AllByRecursion};
 ghost use Rattle.refusal.specs.declared.Refusal.TheVariants.{OutOfRange};
 ghost use Rattle.text.specs.Spans.{text_at};
 ghost use Rattle.format.specs.Format.{number as number_format, checked, only_if, rows as rows_format};
@@ -105,7 +105,7 @@ pub(crate) fn read_patterns(
     requires { count ≤ 256 }
     ensures reads { Reads (rows_format (λ _. pattern_record) None count) (λ image _. rows_at pattern_at rows.new count image) cursor.old result cursor.new }
     ensures filled { Filled 256 count rows.old rows.new }
-    ensures tidy { OnOk result (All PatternTidy (take count rows.new)) }
+    ensures tidy { OnOk result (AllByRecursion PatternTidy (take count rows.new)) }
 {
     for i in 0..count {
         let row = read_pattern(cursor)?;

@@ -1,6 +1,6 @@
 // Recipes.
 ghost use Rattle.std.specs.Prelude.{◌≤◌, take, IfOk, None, OnOk};
-ghost use Rattle.std.specs.List.{AllByRecursion as All};
+ghost use Rattle.std.specs.List.{AllByRecursion};
 ghost use Rattle.format.specs.Format.{only_if, rows as rows_format};
 ghost use Rattle.format.specs.Fields.{bit, counted};
 ghost use Rattle.format.specs.Reads.{Reads};
@@ -76,7 +76,7 @@ pub(crate) fn read_recipes(
     requires { count ≤ 64 }
     ensures reads { Reads (rows_format (λ _. recipe_record patterns) None count) (λ image _. rows_at recipe_at rows.new count image) cursor.old result cursor.new }
     ensures filled { Filled 64 count rows.old rows.new }
-    ensures tidy { OnOk result (All RecipeTidy (take count rows.new)) }
+    ensures tidy { OnOk result (AllByRecursion RecipeTidy (take count rows.new)) }
 {
     for i in 0..count {
         let row = read_recipe(cursor, patterns)?;

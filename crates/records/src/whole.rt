@@ -1,6 +1,6 @@
 // The whole tree.
 ghost use Rattle.std.specs.Prelude.{take, IfOk};
-ghost use Rattle.std.specs.List.{AllByRecursion as All};
+ghost use Rattle.std.specs.List.{AllByRecursion};
 ghost use Rattle.format.specs.Reads.{Reads};
 ghost use Rattle.records.specs.Records.{tree as tree_format};
 ghost use Rattle.records.specs.TreeRows.{tree_at, Filled, RecipeTidy, PatternTidy};
@@ -28,8 +28,8 @@ pub fn read_tree(
     ensures names { IfOk result (λ n. Filled 512 n.names names.old names.new) }
     ensures recipes { IfOk result (λ n. Filled 64 n.recipes recipes.old recipes.new) }
     ensures patterns { IfOk result (λ n. Filled 256 n.patterns patterns.old patterns.new) }
-    ensures parameters { IfOk result (λ n. All RecipeTidy (take n.recipes recipes.new)) }
-    ensures texts { IfOk result (λ n. All PatternTidy (take n.patterns patterns.new)) }
+    ensures parameters { IfOk result (λ n. AllByRecursion RecipeTidy (take n.recipes recipes.new)) }
+    ensures texts { IfOk result (λ n. AllByRecursion PatternTidy (take n.patterns patterns.new)) }
 {
     let counts = read_head(cursor)?;
     read_modules(cursor, counts.modules as usize, counts.recipes, modules)?;

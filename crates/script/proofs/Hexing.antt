@@ -1,6 +1,6 @@
 -- Digits and the bytes that they spell.
 use Rattle.std.proofs.Common.{◌≡◌, ℕ, ◌+◌, ◌-◌, ◌*◌, ◌/◌, ◌%◌, ◌<◌, ◌≤◌, ◌⊎◌, List, [], ◌∷◌, ◌++◌, length, get_or, take, drop, Some, None, sym, refl, ap, ◌∙◌, subst, inl, inr, arith}
-use Rattle.std.specs.List.{AllByRecursion as All}
+use Rattle.std.specs.List.{AllByRecursion}
 use Rattle.std.proofs.lemmas.Bool.{cases_lt, lt-ltb, le-ltb}
 use Rattle.std.proofs.lemmas.Bool.Decides.{nat_tests}
 use Rattle.std.proofs.lemmas.List.{take-append-drop, drop_more, take_more, length-drop, append_assoc}
@@ -33,7 +33,7 @@ value_digit n h = go (cases_lt n 10)
         let k : 97 + (n - 10) - 97 + 10 ≡ n = omega arith in
         ap value_of e ∙ (let v : value_of (97 + (n - 10)) ≡ Some (97 + (n - 10) - 97 + 10) = grind (arith, nat_tests) in v) ∙ ap Some k
 
-back : (bytes : List ℕ) → All (λ b. b < 256) bytes → Spells (hex_of bytes) bytes
+back : (bytes : List ℕ) → AllByRecursion (λ b. b < 256) bytes → Spells (hex_of bytes) bytes
 back [] a = Spells.none
 back (b ∷ t) a =
     let h : b < 256 = a.0 in

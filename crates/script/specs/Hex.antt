@@ -1,6 +1,6 @@
 -- Bytes as pairs of hexadecimal digits.
 use Rattle.std.specs.Prelude.{◌≡◌, ℕ, ◌+◌, ◌-◌, ◌*◌, ◌/◌, ◌%◌, ◌<◌, cond, ◌&&◌, List, [], ◌∷◌, Some, None, Option, nat_le, nat_lt}
-use Rattle.std.specs.List.{AllByRecursion as All}
+use Rattle.std.specs.List.{AllByRecursion}
 use Rattle.script.specs.declared.hex.HexFault.{HexFault}
 use Rattle.script.specs.declared.hex.HexFault.TheVariants.{NotHex, NoMemory}
 
@@ -31,5 +31,5 @@ Unspelled digits NotHex = (bytes : List ℕ) → Spells digits bytes → ⊥
 Unspelled digits NoMemory = Unit {0}
 
 pub record HexStands : Type 0 where
-  pub back : (bytes : List ℕ) → All (λ b. b < 256) bytes → Spells (hex_of bytes) bytes
+  pub back : (bytes : List ℕ) → AllByRecursion (λ b. b < 256) bytes → Spells (hex_of bytes) bytes
   pub only : (digits bytes others : List ℕ) → Spells digits bytes → Spells digits others → bytes ≡ others

@@ -1,6 +1,6 @@
 -- What the type of a line carries.
 use Rattle.std.proofs.Common.{◌≡◌, ℕ, ◌-◌, ◌≤◌, true, false, eqb, List, ◌∷◌, ◌++◌, length, get_or, take, Some, sym, ap, ◌∙◌, subst, arith}
-use Rattle.std.specs.List.{AllByRecursion as All}
+use Rattle.std.specs.List.{AllByRecursion}
 use Rattle.std.proofs.lemmas.List.{length-map, length-take}
 use Rattle.std.proofs.lemmas.Bool.{eqb-false, true≢false}
 use Rattle.refusal.specs.declared.Refusal.TheVariants.{LineNotClosed, WordNotUtf8}
@@ -41,9 +41,9 @@ garbled_at bytes words count i short few cut (before, word, after, is, at, all, 
     subst (λ n. Oversteps bytes (WordNotUtf8 n)) at (Oversteps.garbled before word after short (subst (Cut bytes) whole cut) long all bad)
 
 -- a line made over a copy of its bytes
-module _ (bytes own : List ℕ) (words : List Span) (count : ℕ) (copy : take (length bytes) own ≡ bytes) (short : length bytes ≤ 1024) (few : count ≤ 128) (cut : Cut bytes (texts_at bytes (take count words))) (valid : All Utf8 (texts_at bytes (take (count - 0) words))) where
-  all_utf8 : All Utf8 (texts_at bytes (take count words))
-  all_utf8 = let k : count - 0 ≡ count = omega arith in subst (λ n. All Utf8 (texts_at bytes (take n words))) k valid
+module _ (bytes own : List ℕ) (words : List Span) (count : ℕ) (copy : take (length bytes) own ≡ bytes) (short : length bytes ≤ 1024) (few : count ≤ 128) (cut : Cut bytes (texts_at bytes (take count words))) (valid : AllByRecursion Utf8 (texts_at bytes (take (count - 0) words))) where
+  all_utf8 : AllByRecursion Utf8 (texts_at bytes (take count words))
+  all_utf8 = let k : count - 0 ≡ count = omega arith in subst (λ n. AllByRecursion Utf8 (texts_at bytes (take n words))) k valid
 
   pub whole_made : closed (texts_at (take (length bytes) own) (take count words)) ≡ take (length bytes) own
   whole_made = subst (λ bs. closed (texts_at bs (take count words)) ≡ bs) (sym copy) cut.whole

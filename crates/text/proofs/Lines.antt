@@ -1,6 +1,6 @@
 -- A line keeps the limits or oversteps one first.
 use Rattle.std.proofs.Common.{◌≡◌, ℕ, ◌<◌, ◌≤◌, List, [], ◌∷◌, ◌++◌, length, refl, ap, subst, arith}
-use Rattle.std.specs.List.{AllByRecursion as All}
+use Rattle.std.specs.List.{AllByRecursion}
 use Rattle.refusal.specs.declared.Refusal.{Refusal}
 use Rattle.refusal.specs.declared.Refusal.TheVariants.{WordNotUtf8}
 use Rattle.text.specs.Identifier.{Text}
@@ -9,7 +9,7 @@ use Rattle.text.specs.Line.{Cut, Within, Oversteps, LineStands}
 use Rattle.text.proofs.Cuts.{cut_only, cut_last}
 
 -- a list of words has one first word that is not UTF-8
-same_first : (xs ys us vs : List Text) (x u : Text) → xs ++ x ∷ ys ≡ us ++ u ∷ vs → All Utf8 xs → (Utf8 x → ⊥) → All Utf8 us → (Utf8 u → ⊥) → length xs ≡ length us
+same_first : (xs ys us vs : List Text) (x u : Text) → xs ++ x ∷ ys ≡ us ++ u ∷ vs → AllByRecursion Utf8 xs → (Utf8 x → ⊥) → AllByRecursion Utf8 us → (Utf8 u → ⊥) → length xs ≡ length us
 same_first [] ys [] vs x u e a n b m = refl
 same_first [] ys (w ∷ us) vs x u e a n b m = absurd (n (subst Utf8 (let h : w ≡ x = cc in h) b.0))
 same_first (w ∷ xs) ys [] vs x u e a n b m = absurd (m (subst Utf8 (let h : w ≡ u = cc in h) a.0))
@@ -17,7 +17,7 @@ same_first (w ∷ xs) ys (z ∷ us) vs x u e a n b m =
     let h : xs ++ x ∷ ys ≡ us ++ u ∷ vs = cc in
     let k = same_first xs ys us vs x u h a.1 n b.1 m in omega arith
 
-all-at : (xs ys : List Text) (x : Text) → All Utf8 (xs ++ x ∷ ys) → Utf8 x
+all-at : (xs ys : List Text) (x : Text) → AllByRecursion Utf8 (xs ++ x ∷ ys) → Utf8 x
 all-at [] ys x a = a.0
 all-at (w ∷ xs) ys x a = all-at xs ys x a.1
 
@@ -29,7 +29,7 @@ apart w (Oversteps.long h) = let k = w.short in omega arith
 apart w (Oversteps.unclosed h s n) = n (cut_last w.cut s)
 apart {line} {own} w (Oversteps.many {words} h c m) = let k = ap length (cut_only line words own c w.cut) in let f = w.few in omega arith
 apart {line} {own} w (Oversteps.garbled before word after h c m a n) =
-    n (all-at before after word (subst (All Utf8) (cut_only line own (before ++ word ∷ after) w.cut c) w.valid))
+    n (all-at before after word (subst (AllByRecursion Utf8) (cut_only line own (before ++ word ∷ after) w.cut c) w.valid))
 
 first : {line : List ℕ} {refusal other : Refusal} → Oversteps line refusal → Oversteps line other → refusal ≡ other
 first (Oversteps.long h) (Oversteps.long k) = refl

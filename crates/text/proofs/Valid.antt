@@ -1,6 +1,6 @@
 -- The test by lead bytes decides the grammar.
 use Rattle.std.proofs.Common.{◌≡◌, ℕ, zero, suc, ◌≤◌, true, eqb, List, [], ◌∷◌, length, drop, sym, refl, subst, arith}
-use Rattle.std.specs.List.{AllByRecursion as All}
+use Rattle.std.specs.List.{AllByRecursion}
 use Rattle.std.proofs.lemmas.List.{length-drop, nil_from_length}
 use Rattle.std.proofs.lemmas.Bool.{and_parts, and_from, eqb-true, eqb-false, eq-eqb, ne_eqb, false≢true}
 use Rattle.text.specs.Lead.{front, chars, valid, all_valid}
@@ -31,10 +31,10 @@ valid_from s u = chars_is (length s) s (omega arith) u
 pub utf8_from : (s : List ℕ) → valid s ≡ true → Utf8 s
 utf8_from s e = chars_utf8 (length s) s e
 
-pub all_valid_from : (ws : List (List ℕ)) → All Utf8 ws → all_valid ws ≡ true
+pub all_valid_from : (ws : List (List ℕ)) → AllByRecursion Utf8 ws → all_valid ws ≡ true
 all_valid_from [] a = refl
 all_valid_from (w ∷ ws) a = and_from (valid w) (all_valid ws) (valid_from w a.0) (all_valid_from ws a.1)
 
-pub all_utf8_from : (ws : List (List ℕ)) → all_valid ws ≡ true → All Utf8 ws
+pub all_utf8_from : (ws : List (List ℕ)) → all_valid ws ≡ true → AllByRecursion Utf8 ws
 all_utf8_from [] e = tt
 all_utf8_from (w ∷ ws) e = let p = and_parts (valid w) (all_valid ws) e in (utf8_from w p.0, all_utf8_from ws p.1)

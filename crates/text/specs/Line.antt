@@ -1,6 +1,6 @@
 -- A line, its words and its limits.
 use Rattle.std.specs.Prelude.{◌≡◌, ℕ, ◌-◌, ◌<◌, ◌≤◌, Bool, true, false, cond, ◌&&◌, List, [], ◌∷◌, ◌++◌, length, ◌==◌, ◌≢◌, slice_index}
-use Rattle.std.specs.List.{AllByRecursion as All}
+use Rattle.std.specs.List.{AllByRecursion}
 use Rattle.refusal.specs.declared.Refusal.{Refusal}
 use Rattle.refusal.specs.declared.Refusal.TheVariants.{LineTooLong, LineNotClosed, TooManyWords, WordNotUtf8}
 use Rattle.text.specs.Identifier.{Text}
@@ -30,14 +30,14 @@ pub record Within (line : List ℕ) (words : List Text) : Type 0 where
   pub short : length line ≤ 1024
   pub cut : Cut line words
   pub few : length words ≤ 128
-  pub valid : All Utf8 words
+  pub valid : AllByRecursion Utf8 words
 
 -- the first limit that a line oversteps: those before it are kept
 pub data Oversteps (line : List ℕ) : Refusal → Type 0 where
   long : 1024 < length line → Oversteps line LineTooLong
   unclosed : length line ≤ 1024 → 0 < length line → (slice_index line (length line - 1) ≢ 0) → Oversteps line LineNotClosed
   many : {words : List Text} → length line ≤ 1024 → Cut line words → 128 < length words → Oversteps line TooManyWords
-  garbled : (before : List Text) (word : Text) (after : List Text) → length line ≤ 1024 → Cut line (before ++ word ∷ after) → length (before ++ word ∷ after) ≤ 128 → All Utf8 before → (Utf8 word → ⊥) → Oversteps line (WordNotUtf8 (length before))
+  garbled : (before : List Text) (word : Text) (after : List Text) → length line ≤ 1024 → Cut line (before ++ word ∷ after) → length (before ++ word ∷ after) ≤ 128 → AllByRecursion Utf8 before → (Utf8 word → ⊥) → Oversteps line (WordNotUtf8 (length before))
 
 -- a line has one list of words at most, and keeps the limits or oversteps one first, and never both
 pub record LineStands : Type 0 where

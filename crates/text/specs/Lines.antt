@@ -1,6 +1,6 @@
 -- What the steps of cutting a line answer.
 use Rattle.std.specs.Prelude.{◌≡◌, ℕ, ◌-◌, ◌<◌, ◌≤◌, Bool, true, cond, List, ◌∷◌, ◌++◌, length, take, Option, MatchOption, ◌==◌, slice_index}
-use Rattle.std.specs.List.{AllByRecursion as All}
+use Rattle.std.specs.List.{AllByRecursion}
 use Rattle.text.specs.Identifier.{Text}
 use Rattle.text.specs.Spans.{texts_at}
 use Rattle.text.specs.Utf8.{Utf8}
@@ -28,5 +28,5 @@ Filled line table r =
 -- all words are UTF-8; or those before this one, and not this one
 abbrev pub FirstGarbled : List Text → Option ℕ → Type 0
 FirstGarbled words r =
-    MatchOption r (All Utf8 words)
-    (λ i. (before : List Text) × (word : Text) × (after : List Text) × (words ≡ before ++ word ∷ after) × (length before ≡ i) × All Utf8 before × (Utf8 word → ⊥))
+    MatchOption r (AllByRecursion Utf8 words)
+    (λ i. (before : List Text) × (word : Text) × (after : List Text) × (words ≡ before ++ word ∷ after) × (length before ≡ i) × AllByRecursion Utf8 before × (Utf8 word → ⊥))

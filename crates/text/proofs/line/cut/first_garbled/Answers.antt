@@ -1,5 +1,5 @@
 use Rattle.std.proofs.Common.{◌+◌, ◌∷◌, ◌++◌, get_or, take, drop, sym, ap, ◌∙◌, subst}
-use Rattle.std.specs.List.{AllByRecursion as All}
+use Rattle.std.specs.List.{AllByRecursion}
 use Rattle.std.proofs.lemmas.List.{take-append-drop, drop_more, map-append, map_more, length-map, length-take-le, take_all}
 use Rattle.std.proofs.ByRecursion.{All-push}
 use Rattle.std.proofs.lemmas.Bool.Decides.{not_from_Decides}
@@ -28,10 +28,10 @@ loop-i-preserved c =
     let bytes = c.args.bytes.now in
     let words = c.args.words.now in
     let i = c.loop-i.i in
-    subst (All Utf8) (sym (map_more (text_at bytes) words i (record { start = 0; len = 0 }) c.loop-i-test.true))
+    subst (AllByRecursion Utf8) (sym (map_more (text_at bytes) words i (record { start = 0; len = 0 }) c.loop-i-test.true))
     (All-push Utf8 (texts_at bytes (take i words)) (text_at bytes (get_or words i (record { start = 0; len = 0 }))) c.loop-i.invariant
     (subst Utf8 c.text_at.ensures (c.is_utf8.ensures.0 c.if-not-is_utf8.false)))
 
 pub returns : goal.returns
 returns c =
-    subst (λ ws. All Utf8 (texts_at c.args.bytes.now ws)) (take_all c.loop-i.i c.args.words.now c.loop-i-test.false) c.loop-i.invariant
+    subst (λ ws. AllByRecursion Utf8 (texts_at c.args.bytes.now ws)) (take_all c.loop-i.i c.args.words.now c.loop-i-test.false) c.loop-i.invariant

@@ -1,7 +1,7 @@
 #!/usr/bin/env python3
 """Times the check of the largest image: a benchmark, not a test.
 
-    rt check image_cases && tools/bench_image.py target/bin/image_cases
+    (cd crates/image_cases && rt run </dev/null) && tools/bench_image.py crates/image_cases/out/image_cases
 
 The program is run on many copies of the image, and on as many images of one byte too many, which it refuses at once:
 the difference is the check, without the reading of digits.

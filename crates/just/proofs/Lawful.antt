@@ -16,7 +16,7 @@ use Rattle.table.specs.Order.{Ascending, KeyAt}
 use Rattle.table.proofs.Narrow.{ascending_once}
 use Rattle.tree.specs.Tree as trees
 use Rattle.tree.specs.Tree.{Tree, Name, Module}
-use Rattle.register.specs.Parameters.{Passes, AtMostOne, Apart, has_long, has_letter}
+use Rattle.register.specs.Parameters.{Passes, AtMostOne, Apart, has_long_name, has_letter_code}
 use Rattle.register.proofs.Places.{place_only, passing, text_has, code_has}
 use Rattle.register.specs.declared.kind.Kind.TheVariants as kinds
 use Rattle.tree_register.specs.Names.{is_named, tree_names}
@@ -66,12 +66,12 @@ rooted t k = k.0.0.1.0
 
 -- No two parameters share a long name or a letter.
 
-long_stands : (x : Text) (qs : List trees.Parameter) (i : ℕ) → Passes (has_long x) (map signatures.parameter_of qs) i → Stands (λ (p : trees.Parameter). p.long ≡ Some x) qs i
+long_stands : (x : Text) (qs : List trees.Parameter) (i : ℕ) → Passes (has_long_name x) (map signatures.parameter_of qs) i → Stands (λ (p : trees.Parameter). p.long ≡ Some x) qs i
 long_stands x [] i h = let z : ◌≡◌ {A = ℕ} 0 1 = cc in absurd (omega arith)
 long_stands x (q ∷ qs) zero h = text_has x q.long (cc)
 long_stands x (q ∷ qs) (suc i) h = long_stands x qs i h
 
-letter_stands : (c : ℕ) (qs : List trees.Parameter) (i : ℕ) → Passes (has_letter c) (map signatures.parameter_of qs) i → Stands (λ (p : trees.Parameter). p.letter ≡ Some c) qs i
+letter_stands : (c : ℕ) (qs : List trees.Parameter) (i : ℕ) → Passes (has_letter_code c) (map signatures.parameter_of qs) i → Stands (λ (p : trees.Parameter). p.letter ≡ Some c) qs i
 letter_stands c [] i h = let z : ◌≡◌ {A = ℕ} 0 1 = cc in absurd (omega arith)
 letter_stands c (q ∷ qs) zero h = code_has c q.letter (cc)
 letter_stands c (q ∷ qs) (suc i) h = letter_stands c qs i h
@@ -85,8 +85,8 @@ one_place P apart i j a b = elim (cases_order i j) [
 
 parameters_apart : (qs : List trees.Parameter) → shared.Apart qs → Apart (map signatures.parameter_of qs)
 parameters_apart qs a = record {
-  longs = λ x. one_place (Passes (has_long x) (map signatures.parameter_of qs)) (λ i j h m n. a.longs i j x h (long_stands x qs i m) (long_stands x qs j n));
-  letters = λ c. one_place (Passes (has_letter c) (map signatures.parameter_of qs)) (λ i j h m n. a.letters i j c h (letter_stands c qs i m) (letter_stands c qs j n));
+  longs = λ x. one_place (Passes (has_long_name x) (map signatures.parameter_of qs)) (λ i j h m n. a.longs i j x h (long_stands x qs i m) (long_stands x qs j n));
+  letters = λ c. one_place (Passes (has_letter_code c) (map signatures.parameter_of qs)) (λ i j h m n. a.letters i j c h (letter_stands c qs i m) (letter_stands c qs j n));
 }
 
 none_apart : Apart []

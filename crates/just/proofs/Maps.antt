@@ -7,7 +7,7 @@ use Rattle.std.proofs.lemmas.Bool.{true≢false}
 use Rattle.text.specs.Identifier.{Text}
 use Rattle.text.proofs.Splits.{either_way}
 use Rattle.register.specs.Meaning.{ParameterMeaning}
-use Rattle.register.specs.Parameters.{place_of, Passes, AtMostOne, Apart, is_text, is_code, has_long, has_letter, long_place, letter_place}
+use Rattle.register.specs.Parameters.{place_of, Passes, AtMostOne, Apart, is_text, is_code, has_long_name, has_letter_code, long_place, letter_place}
 use Rattle.register.proofs.Places.{place_found, place_never, passing}
 use Rattle.reading.specs.Signature as rules
 use Rattle.just.specs.Table.{Entry, Map, find, collected, is_empty}
@@ -105,13 +105,13 @@ alike_one f g h ps one i j a b = one i j (to i a) (to j b)
 module _ (ps : List Parameter) (apart : Apart (map meaning ps)) where
   pub long_is : (t : Text) → find bytes_eq (long_of ps) t ≡ long_place (map meaning ps) t
   long_is t =
-      map_is bytes_eq t (λ p. p.long) ps (alike_one (has_long t) (λ p. keyed bytes_eq t p.long) (λ p. text_keyed t p.long) ps (apart.longs t))
-      ∙ sym (place_map meaning (has_long t) ps ∙ alike_place (λ p. has_long t (meaning p)) (λ p. keyed bytes_eq t p.long) (λ p. text_keyed t p.long) ps)
+      map_is bytes_eq t (λ p. p.long) ps (alike_one (has_long_name t) (λ p. keyed bytes_eq t p.long) (λ p. text_keyed t p.long) ps (apart.longs t))
+      ∙ sym (place_map meaning (has_long_name t) ps ∙ alike_place (λ p. has_long_name t (meaning p)) (λ p. keyed bytes_eq t p.long) (λ p. text_keyed t p.long) ps)
 
   pub short_is : (c : ℕ) → find eqb (short_of ps) c ≡ letter_place (map meaning ps) c
   short_is c =
-      map_is eqb c (λ p. p.short) ps (alike_one (has_letter c) (λ p. keyed eqb c p.short) (λ p. code_keyed c p.short) ps (apart.letters c))
-      ∙ sym (place_map meaning (has_letter c) ps ∙ alike_place (λ p. has_letter c (meaning p)) (λ p. keyed eqb c p.short) (λ p. code_keyed c p.short) ps)
+      map_is eqb c (λ p. p.short) ps (alike_one (has_letter_code c) (λ p. keyed eqb c p.short) (λ p. code_keyed c p.short) ps (apart.letters c))
+      ∙ sym (place_map meaning (has_letter_code c) ps ∙ alike_place (λ p. has_letter_code c (meaning p)) (λ p. keyed eqb c p.short) (λ p. code_keyed c p.short) ps)
 
 -- no map has an entry exactly where no parameter is an option
 full_stays : {K : Type 0} (e : Entry K ℕ) (m : Map K ℕ) (es : List (Entry K ℕ)) → is_empty (collected (e ∷ m) es) ≡ false

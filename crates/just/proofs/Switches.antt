@@ -9,7 +9,7 @@ use Rattle.refusal.specs.Shift.{shifted_by}
 use Rattle.text.specs.Identifier.{Text}
 use Rattle.text.proofs.Splits.{either_way}
 use Rattle.register.specs.Meaning.{ParameterMeaning}
-use Rattle.register.specs.Parameters.{Apart, has_long, has_letter}
+use Rattle.register.specs.Parameters.{Apart, has_long_name, has_letter_code}
 use Rattle.register.proofs.Places.{place_found, passing}
 use Rattle.reading.specs.Switches.{called, called_at, place_by}
 use Rattle.reading.specs.Reading as rules
@@ -50,8 +50,8 @@ module _ (ps : List Parameter) (apart : Apart (map meaning ps)) where
   index_is (Short c) = short_is ps apart c
 
   within : (s : Switch) (k : ℕ) → place_by (map meaning ps) (switch_means s) ≡ Some k → (m : ParameterMeaning) × (slice_get (map meaning ps) k ≡ Some m)
-  within (Long t) k e = let w = passing (has_long t) (map meaning ps) k (place_found (has_long t) (map meaning ps) k e) in (w.0, w.1)
-  within (Short c) k e = let w = passing (has_letter c) (map meaning ps) k (place_found (has_letter c) (map meaning ps) k e) in (w.0, w.1)
+  within (Long t) k e = let w = passing (has_long_name t) (map meaning ps) k (place_found (has_long_name t) (map meaning ps) k e) in (w.0, w.1)
+  within (Short c) k e = let w = passing (has_letter_code c) (map meaning ps) k (place_found (has_letter_code c) (map meaning ps) k e) in (w.0, w.1)
 
   pub view : (s : Switch) → View ps s
   view s = go (place_by (map meaning ps) (switch_means s)) refl

@@ -6,7 +6,7 @@ use Rattle.std.specs.List.{slice_get}
 use Rattle.std.proofs.lemmas.Bool.{eq-eqb, ne_eqb}
 use Rattle.text.specs.Identifier.{Text}
 use Rattle.register.specs.Meaning.{ParameterMeaning}
-use Rattle.register.specs.Parameters.{place_of, has_long, has_letter, is_text, is_code}
+use Rattle.register.specs.Parameters.{place_of, has_long_name, has_letter_code, is_text, is_code}
 use Rattle.register.proofs.Places.{place_found}
 use Rattle.reading.specs.Signature.{Takes, Each, is_option, takes_true}
 use Rattle.reading.specs.Switches.{Switch, Called, called, called_at, place_by, attached, switches}
@@ -106,8 +106,8 @@ has_letter_lem c p None e h = absurd (clash (sym h))
 has_letter_lem c p (Some d) e h = rw e (split (is_some p.long) (λ t. rw t) (λ f. rw f))
 
 place_option : (ps : List ParameterMeaning) (s : Switch) (k : ℕ) (p : ParameterMeaning) → place_by ps s ≡ Some k → At ps k p → is_option p ≡ true
-place_option ps (Switch.Long t) k p f a = has_long_lem t p p.long refl (found_at (has_long t) ps k p f a)
-place_option ps (Switch.Letter c) k p f a = has_letter_lem c p p.letter refl (found_at (has_letter c) ps k p f a)
+place_option ps (Switch.Long t) k p f a = has_long_lem t p p.long refl (found_at (has_long_name t) ps k p f a)
+place_option ps (Switch.Letter c) k p f a = has_letter_lem c p p.letter refl (found_at (has_letter_code c) ps k p f a)
 
 -- what a switch calls is an option, at its place
 pub record IsCalled (ps : List ParameterMeaning) (c : Called) : Type 0 where

@@ -6,7 +6,7 @@ use Rattle.std.proofs.lemmas.Slice.Eq.{bytes_eq-Decides}
 use Rattle.std.proofs.lemmas.Bool.{eqb-true, eq-eqb}
 use Rattle.text.specs.Identifier.{Text}
 use Rattle.register.specs.Meaning.{ParameterMeaning}
-use Rattle.register.specs.Parameters.{place_of, Passes, AtMostOne, has_long, has_letter, is_text, is_code, long_at, letter_at}
+use Rattle.register.specs.Parameters.{place_of, Passes, AtMostOne, has_long_name, has_letter_code, is_text, is_code, long_at, letter_at}
 
 module _ {X : Type 0} (test : X → Bool) where
   none_by : (x : X) (xs : List X) (b : Bool) → test x ≡ b → ((i : ℕ) → Passes test (x ∷ xs) i → ⊥) → place_of test xs ≡ None → place_of test (x ∷ xs) ≡ None
@@ -90,30 +90,30 @@ code_has c None h = let z : ◌≡◌ {A = ℕ} 0 1 = cc in absurd (omega arith)
 code_has c (Some d) h = ap (λ w. Some w) (eqb-true d c h)
 
 module _ (ps : List ParameterMeaning) where
-  pub long_passes : (t : Text) (i : ℕ) → long_at ps i ≡ Some t → Passes (has_long t) ps i
+  pub long_passes : (t : Text) (i : ℕ) → long_at ps i ≡ Some t → Passes (has_long_name t) ps i
   long_passes t i h = at (slice_get ps i) h
     where
-      at : (o : Option ParameterMeaning) → option_flatten (option_map (λ p. p.long) o) ≡ Some t → option_map (has_long t) o ≡ Some true
+      at : (o : Option ParameterMeaning) → option_flatten (option_map (λ p. p.long) o) ≡ Some t → option_map (has_long_name t) o ≡ Some true
       at None m = let z : ◌≡◌ {A = ℕ} 0 1 = cc in absurd (omega arith)
       at (Some p) m = ap (λ w. Some (is_text t w)) m ∙ ap (λ w. Some w) ((bytes_eq-Decides t t).1 refl)
 
-  pub passes_long : (t : Text) (i : ℕ) → Passes (has_long t) ps i → long_at ps i ≡ Some t
+  pub passes_long : (t : Text) (i : ℕ) → Passes (has_long_name t) ps i → long_at ps i ≡ Some t
   passes_long t i h = at (slice_get ps i) h
     where
-      at : (o : Option ParameterMeaning) → option_map (has_long t) o ≡ Some true → option_flatten (option_map (λ p. p.long) o) ≡ Some t
+      at : (o : Option ParameterMeaning) → option_map (has_long_name t) o ≡ Some true → option_flatten (option_map (λ p. p.long) o) ≡ Some t
       at None m = let z : ◌≡◌ {A = ℕ} 0 1 = cc in absurd (omega arith)
       at (Some p) m = text_has t p.long (cc)
 
-  pub letter_passes : (c i : ℕ) → letter_at ps i ≡ Some c → Passes (has_letter c) ps i
+  pub letter_passes : (c i : ℕ) → letter_at ps i ≡ Some c → Passes (has_letter_code c) ps i
   letter_passes c i h = at (slice_get ps i) h
     where
-      at : (o : Option ParameterMeaning) → option_flatten (option_map (λ p. p.letter) o) ≡ Some c → option_map (has_letter c) o ≡ Some true
+      at : (o : Option ParameterMeaning) → option_flatten (option_map (λ p. p.letter) o) ≡ Some c → option_map (has_letter_code c) o ≡ Some true
       at None m = let z : ◌≡◌ {A = ℕ} 0 1 = cc in absurd (omega arith)
       at (Some p) m = ap (λ w. Some (is_code c w)) m ∙ ap (λ w. Some w) (eq-eqb c c refl)
 
-  pub passes_letter : (c i : ℕ) → Passes (has_letter c) ps i → letter_at ps i ≡ Some c
+  pub passes_letter : (c i : ℕ) → Passes (has_letter_code c) ps i → letter_at ps i ≡ Some c
   passes_letter c i h = at (slice_get ps i) h
     where
-      at : (o : Option ParameterMeaning) → option_map (has_letter c) o ≡ Some true → option_flatten (option_map (λ p. p.letter) o) ≡ Some c
+      at : (o : Option ParameterMeaning) → option_map (has_letter_code c) o ≡ Some true → option_flatten (option_map (λ p. p.letter) o) ≡ Some c
       at None m = let z : ◌≡◌ {A = ℕ} 0 1 = cc in absurd (omega arith)
       at (Some p) m = code_has c p.letter (cc)

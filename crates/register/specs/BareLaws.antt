@@ -2,7 +2,7 @@
 use Rattle.std.specs.Prelude.{◌≡◌, ℕ, zero, suc, ◌≤◌, Bool, true, false, cond, [], ◌∷◌, length, ◌==◌, refl}
 use Rattle.std.proofs.Common.{lit≤, arith}
 use Rattle.register.specs.Meaning.{ParameterMeaning}
-use Rattle.register.specs.Parameters.{Apart, Passes, has_long, has_letter}
+use Rattle.register.specs.Parameters.{Apart, Passes, has_long_name, has_letter_code}
 use Rattle.register.specs.Bare.{bare_parameters, star_only}
 
 pub bare_few : (r : ℕ) → length (bare_parameters r) ≤ 16
@@ -16,6 +16,6 @@ none_passes test false place f h = let z : ◌≡◌ {A = ℕ} 0 1 = cc in omega
 
 pub bare_apart : (r : ℕ) → Apart (bare_parameters r)
 bare_apart r = record {
-  longs = λ t i j h g. absurd (none_passes (has_long t) (r == 1) i refl h);
-  letters = λ c i j h g. absurd (none_passes (has_letter c) (r == 1) i refl h);
+  longs = λ t i j h g. absurd (none_passes (has_long_name t) (r == 1) i refl h);
+  letters = λ c i j h g. absurd (none_passes (has_letter_code c) (r == 1) i refl h);
 }

@@ -42,11 +42,11 @@ abbrev pub is_code : ℕ → Option ℕ → Bool
 is_code c None = false
 is_code c (Some d) = d == c
 
-abbrev pub has_long : Text → ParameterMeaning → Bool
-has_long t p = is_text t p.long
+abbrev pub has_long_name : Text → ParameterMeaning → Bool
+has_long_name t p = is_text t p.long
 
-abbrev pub has_letter : ℕ → ParameterMeaning → Bool
-has_letter c p = is_code c p.letter
+abbrev pub has_letter_code : ℕ → ParameterMeaning → Bool
+has_letter_code c p = is_code c p.letter
 
 -- the first place whose item passes a test
 abbrev pub place_of : {X : Type 0} → (X → Bool) → List X → Option ℕ
@@ -54,10 +54,10 @@ place_of test [] = None
 place_of test (x ∷ xs) = cond (test x) (Some 0) (option_map suc (place_of test xs))
 
 abbrev pub long_place : List ParameterMeaning → Text → Option ℕ
-long_place ps t = place_of (has_long t) ps
+long_place ps t = place_of (has_long_name t) ps
 
 abbrev pub letter_place : List ParameterMeaning → ℕ → Option ℕ
-letter_place ps c = place_of (has_letter c) ps
+letter_place ps c = place_of (has_letter_code c) ps
 
 -- the item at this place passes the test
 abbrev pub Passes : {X : Type 0} → (X → Bool) → List X → ℕ → Type 0
@@ -69,8 +69,8 @@ AtMostOne test xs = (i j : ℕ) → Passes test xs i → Passes test xs j → i 
 
 -- no two parameters share a long name or a letter
 pub record Apart (ps : List ParameterMeaning) : Type 0 where
-  pub longs : (t : Text) → AtMostOne (has_long t) ps
-  pub letters : (c : ℕ) → AtMostOne (has_letter c) ps
+  pub longs : (t : Text) → AtMostOne (has_long_name t) ps
+  pub letters : (c : ℕ) → AtMostOne (has_letter_code c) ps
 
 -- among parameters that are apart, a look-up finds a place exactly when the parameter there has that long name, or that letter
 pub record LookUpsStand : Type 0 where

@@ -19,7 +19,7 @@ use Rattle.tree.specs.declared.rows.RecipeRow.{RecipeRow}
 use Rattle.tree.specs.declared.rows.LongRow.{LongRow}
 use Rattle.tree.specs.declared.rows.LetterRow.{LetterRow}
 use Rattle.register.specs.Meaning.{ParameterMeaning}
-use Rattle.register.specs.Parameters.{place_of, Passes, AtMostOne, Apart, has_long, has_letter, long_at, letter_at, long_place, letter_place, is_text, is_code}
+use Rattle.register.specs.Parameters.{place_of, Passes, AtMostOne, Apart, has_long_name, has_letter_code, long_at, letter_at, long_place, letter_place, is_text, is_code}
 use Rattle.register.proofs.Places.{place_none, place_only, text_has, code_has, long_passes, passes_long, letter_passes, passes_letter}
 use Rattle.register.specs.Kinds.{labelled}
 use Rattle.register.specs.declared.kind.Kind.{Kind}
@@ -127,7 +127,7 @@ module _ (image : List ℕ) (recipes : List RecipeRow) (longs : List LongRow) (l
   apart : Apart (parameters_in image recipes r)
   apart = rows_apart image recipes r longs letters longs-up longs_told_lem letters-up letters_told_lem
 
-  long_right : LongsRight image recipes longs → (t : Text) (i : ℕ) (x : LongRow) → slice_get longs i ≡ Some x → long_key image x ≡ r ∷ t → Passes (has_long t) (parameters_in image recipes r) x.place
+  long_right : LongsRight image recipes longs → (t : Text) (i : ℕ) (x : LongRow) → slice_get longs i ≡ Some x → long_key image x ≡ r ∷ t → Passes (has_long_name t) (parameters_in image recipes r) x.place
   long_right right t i x e m =
       let w : i < length longs = slice_get_within longs i x e in
       let read : get_or longs i x ≡ x = cc (slice_get-get_or longs i x w) in
@@ -139,10 +139,10 @@ module _ (image : List ℕ) (recipes : List RecipeRow) (longs : List LongRow) (l
 
   pub long_found : LongsRight image recipes longs → (t : Text) (o : Option LongRow) → FindsRow (long_key image) longs (r ∷ t) o → option_map (λ row. row.place) o ≡ long_place (parameters_in image recipes r) t
   long_found right t o h =
-      look_up (long_key image) (λ row. row.place) longs (r ∷ t) (has_long t) (parameters_in image recipes r) (apart.longs t) (long_right right t)
+      look_up (long_key image) (λ row. row.place) longs (r ∷ t) (has_long_name t) (parameters_in image recipes r) (apart.longs t) (long_right right t)
       (λ p m. long_told_lem image recipes r longs longs_told_lem t p (passes_long (parameters_in image recipes r) t p m)) o h
 
-  letter_right : LettersRight image recipes letters → (c i : ℕ) (x : LetterRow) → slice_get letters i ≡ Some x → letter_key image x ≡ r ∷ c ∷ [] → Passes (has_letter c) (parameters_in image recipes r) x.place
+  letter_right : LettersRight image recipes letters → (c i : ℕ) (x : LetterRow) → slice_get letters i ≡ Some x → letter_key image x ≡ r ∷ c ∷ [] → Passes (has_letter_code c) (parameters_in image recipes r) x.place
   letter_right right c i x e m =
       let w : i < length letters = slice_get_within letters i x e in
       let read : get_or letters i x ≡ x = cc (slice_get-get_or letters i x w) in
@@ -154,5 +154,5 @@ module _ (image : List ℕ) (recipes : List RecipeRow) (longs : List LongRow) (l
 
   pub letter_found : LettersRight image recipes letters → (c : ℕ) (o : Option LetterRow) → FindsRow (letter_key image) letters (r ∷ c ∷ []) o → option_map (λ row. row.place) o ≡ letter_place (parameters_in image recipes r) c
   letter_found right c o h =
-      look_up (letter_key image) (λ row. row.place) letters (r ∷ c ∷ []) (has_letter c) (parameters_in image recipes r) (apart.letters c) (letter_right right c)
+      look_up (letter_key image) (λ row. row.place) letters (r ∷ c ∷ []) (has_letter_code c) (parameters_in image recipes r) (apart.letters c) (letter_right right c)
       (λ p m. letter_told_lem image recipes r letters letters_told_lem c p (passes_letter (parameters_in image recipes r) c p m)) o h

@@ -101,21 +101,21 @@ module _ {X : Type 0} (xs : List X) (n p : ℕ) (row : X) (room : n < length xs)
       let w : p ≤ length (take n xs) = omega (arith, filled-length) in
       between_is (set xs n row) p (n + 1) ∙ ap (drop p) (take_more_set xs n row room) ∙ drop-append-le p (take n xs) (row ∷ []) w
 
-  rest-length : length (drop p (take n xs)) ≡ n - p
-  rest-length = length-drop p (take n xs) ∙ ap (λ k. k - p) filled-length
+  rest_length : length (drop p (take n xs)) ≡ n - p
+  rest_length = length-drop p (take n xs) ∙ ap (λ k. k - p) filled-length
 
   part_length : length part ≡ n - p + 1
-  part_length = ap length part_is ∙ length_push (drop p (take n xs)) row ∙ ap (λ k. k + 1) rest-length
+  part_length = ap length part_is ∙ length_push (drop p (take n xs)) row ∙ ap (λ k. k + 1) rest_length
 
   module _ (ys : List X) (turned : ys ≡ drop (length part - 1) part ++ take (length part - 1) part) where
     at_end : (k : ℕ) → length (drop p (take n xs)) ≡ k → drop k part ++ take k part ≡ row ∷ drop p (take n xs)
     at_end k e = (λ i. drop k (part_is i) ++ take k (part_is i)) ∙ (λ i. drop_at (drop p (take n xs)) (row ∷ []) k e i ++ take_at (drop p (take n xs)) (row ∷ []) k e i)
 
     ys_is : ys ≡ row ∷ drop p (take n xs)
-    ys_is = turned ∙ at_end (length part - 1) (omega (arith, part_length, rest-length))
+    ys_is = turned ∙ at_end (length part - 1) (omega (arith, part_length, rest_length))
 
     ys_length : length ys ≡ n + 1 - p
-    ys_length = ap length ys_is ∙ omega (arith, rest-length)
+    ys_length = ap length ys_is ∙ omega (arith, rest_length)
 
     pub turned_holds : take (n + 1) (put_mid p (n + 1 - p) (set xs n row) ys) ≡ insert (take n xs) p row
     turned_holds =

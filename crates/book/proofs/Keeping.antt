@@ -1,8 +1,7 @@
 -- What a book keeps of a reading that it was told. Assumes nothing.
 use Rattle.std.proofs.Common.{◌≡◌, ℕ, ◌+◌, ◌-◌, ◌≤◌, false, List, [], ◌∷◌, ◌++◌, map, length, take, drop, Ok, Err, Result, sym, refl, ap, ◌∙◌, subst, inl, inr, arith, take-take}
-use lib.Seq.{take-append-le}
 use Rattle.std.specs.List.{AllByRecursion}
-use Rattle.std.proofs.lemmas.List.{take_all, length-map, drop-drop, drop-take}
+use Rattle.std.proofs.lemmas.List.{take_at, drop_at, length-map, drop-drop, drop-take}
 use Rattle.refusal.specs.declared.Refusal.{Refusal}
 use Rattle.text.specs.Identifier.{Text}
 use Rattle.text.specs.Line.{Within}
@@ -40,15 +39,10 @@ take-front : {X : Type 0} (xs a b : List X) (n : ℕ) → take (length a + n) xs
 take-front xs a b n e =
     sym (take-take (length a) (length a + n) xs (omega arith))
     ∙ ap (take (length a)) e
-    ∙ take-append-le (length a) a b (omega arith)
-    ∙ take_all (length a) a (omega arith)
-
-drop-front : {X : Type 0} (a b : List X) → drop (length a) (a ++ b) ≡ b
-drop-front [] b = refl
-drop-front (x ∷ a) b = drop-front a b
+    ∙ take_at a b (length a) refl
 
 take_back : {X : Type 0} (xs a b : List X) (n : ℕ) → take (length a + n) xs ≡ a ++ b → take n (drop (length a) xs) ≡ b
-take_back xs a b n e = sym (drop-take (length a) n xs) ∙ ap (drop (length a)) e ∙ drop-front a b
+take_back xs a b n e = sym (drop-take (length a) n xs) ∙ ap (drop (length a)) e ∙ drop_at a b (length a) refl
 
 module _ (s : SignatureMeaning) (bytes : List ℕ) (vs : List ValueRow) where
   kept_row : (from : ℕ) (o : ToldOrder) → take (length o.values) (drop from vs) ≡ o.values → told_as s (row_kept bytes vs (row_at from o)) ≡ order_told s bytes o

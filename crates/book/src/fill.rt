@@ -1,5 +1,5 @@
 // How far the tables of a book are filled.
-#[derive(Clone, Copy)]
+#[derive(Clone, Copy, Default)]
 pub struct Fill {
     pub bytes: usize,
     pub words: usize,

@@ -1,5 +1,5 @@
 // An order that is kept: its recipe, its first word and how many words it has, and from which value row to which its values stand.
-#[derive(Clone, Copy)]
+#[derive(Clone, Copy, Default)]
 pub struct OrderRow {
     pub recipe: u16,
     pub first: usize,

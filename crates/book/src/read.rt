@@ -8,6 +8,7 @@ use refusal::Refusal;
 use register::register::Register;
 use text::line::Line;
 
+// Kept: a register and a judge are given one by one, here and to the parser, since each goes with any other.
 // Reads a line by a register and a judge: the book keeps its only lawful reading, or the answer is the first limit that it oversteps, or its first fault. What a book keeps behind a refusal is free.
 pub fn read_line<R: Register, J: Judge>(
     register: &R,

@@ -6,12 +6,14 @@ ghost use Rattle.book.specs.Kept.{kept_orders};
 use crate::fill::Fill;
 use crate::order_row::OrderRow;
 use crate::put::{put, put_path};
-use reader::refusing_taker::RefusingTaker;
-use reader::source::{Source, ValueRow};
+use reader::read_order::ReadOrder;
+use reader::source::ValueRow;
+use reader::taker::Taker;
 use reading::role::Role;
 use refusal::Refusal;
 
 // A line and its reading: rows behind the fill are free.
+// Kept: the tables are fixed memory, and one record tells the fill of all, so that the console's guard puts it back in one write.
 #[derive(Drop)]
 pub struct Book {
     pub fill: Fill,
@@ -27,73 +29,48 @@ impl Book {
         ensures held { Holds result [] [] }
         ensures kept { kept_orders result ≡ [] }
     {
-        let order = OrderRow {
-            recipe: 0,
-            first: 0,
-            words: 0,
-            from: 0,
-            to: 0,
-        };
-        let value = ValueRow {
-            parameter: 0,
-            source: Source::True,
-            word: 0,
-        };
         Book {
-            fill: Fill {
-                bytes: 0,
-                words: 0,
-                orders: 0,
-                values: 0,
-            },
+            fill: Fill::default(),
             bytes: [0; 1024],
             roles: [Role::PathWord; 128],
-            orders: [order; 128],
-            values: [value; 1024],
+            orders: [OrderRow::default(); 128],
+            values: [ValueRow::default(); 1024],
         }
     }
 }
 
-impl RefusingTaker for Book {
+impl Taker for Book {
     ghost told = { λ b bytes os. Holds b bytes os };
 
     ghost refuses = { λ _. false };
+
+    ghost since = { λ _ _. Unit {0} };
 
     fn start(&mut self, bytes: &[u8]) {
         put(&mut self.bytes, 0, bytes);
         self.fill = Fill {
             bytes: bytes.len(),
-            words: 0,
-            orders: 0,
-            values: 0,
+            ..Fill::default()
         };
     }
 
-    fn take(
-        &mut self,
-        recipe: u16,
-        first: usize,
-        path: usize,
-        words: usize,
-        roles: &[Role],
-        values: &[ValueRow],
-    ) -> Result<(), Refusal> {
+    fn take(&mut self, order: ReadOrder) -> Result<(), Refusal> {
         let fill = self.fill;
-        put_path(&mut self.roles, fill.words, path);
-        put(&mut self.roles, fill.words + path, roles);
-        put(&mut self.values, fill.values, values);
-        let to = fill.values + values.len();
+        put_path(&mut self.roles, fill.words, order.path);
+        put(&mut self.roles, fill.words + order.path, order.roles);
+        put(&mut self.values, fill.values, order.values);
+        let to = fill.values + order.values.len();
         let row = [OrderRow {
-            recipe,
-            first,
-            words,
+            recipe: order.recipe,
+            first: order.first,
+            words: order.words,
             from: fill.values,
             to,
         }];
         put(&mut self.orders, fill.orders, &row);
         self.fill = Fill {
             bytes: fill.bytes,
-            words: fill.words + path + roles.len(),
+            words: fill.words + order.path + order.roles.len(),
             orders: fill.orders + 1,
             values: to,
         };

@@ -1,33 +1,34 @@
 // What a book shows.
-ghost use Rattle.std.specs.Prelude.{◌≡◌, ◌-◌, take, drop};
+ghost use Rattle.std.specs.Prelude.{◌≡◌, ◌-◌, take, drop, length, min};
 ghost use Rattle.book.specs.Kept.{kept_roles};
 
 use crate::order_row::OrderRow;
 use crate::tables::Book;
 use reader::source::ValueRow;
 use reading::role::Role;
-use text::part::part;
+use text::part::{front, part};
 
 impl Book {
     // The bytes of its line.
     pub fn line(&self) -> &[u8]
         ensures { result.now ≡ take self.now.fill.bytes self.now.bytes }
     {
-        part(&self.bytes, 0, self.fill.bytes)
+        front(&self.bytes, self.fill.bytes)
     }
 
     // The role of each word.
     pub fn roles(&self) -> &[Role]
         ensures { result.now ≡ kept_roles self.now }
     {
-        part(&self.roles, 0, self.fill.words)
+        front(&self.roles, self.fill.words)
     }
 
     // The rows of its orders.
     pub fn orders(&self) -> &[OrderRow]
-        ensures { result.now ≡ take self.now.fill.orders self.now.orders }
+        ensures rows { result.now ≡ take self.now.fill.orders self.now.orders }
+        ensures many { length result.now ≡ min self.now.fill.orders 128 }
     {
-        part(&self.orders, 0, self.fill.orders)
+        front(&self.orders, self.fill.orders)
     }
 
     // The values of an order.

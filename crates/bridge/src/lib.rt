@@ -7,14 +7,13 @@ use image::load::load;
 use image::tables::Tables;
 use image_reader::choice::{JudgeChoice, chosen};
 use image_reader::read::read_image;
-use judge::Judge;
 use reader::invocation_parser::InvocationParser;
-use register::register::Register;
-use report::{ReadingText, RefusedText};
+use report::ReadingText;
 use std::fmt::InlineText;
 use text::line::Line;
 
 // The judge of a number: 0 texts, 1 gauge, any other either.
+// Kept: the C interface gives the judge as a number.
 fn choice_of(judge: u8) -> JudgeChoice {
     match judge {
         0 => JudgeChoice::Texts,
@@ -25,13 +24,8 @@ fn choice_of(judge: u8) -> JudgeChoice {
 
 // Copies as much as there is room for, and tells how much that is.
 fn copy(text: &[u8], out: &mut [u8]) -> usize {
-    let mut count = 0;
-    for (i, b) in text.iter().enumerate() {
-        if i < out.len() {
-            out[i] = *b;
-            count = i + 1;
-        }
-    }
+    let count = text.len().min(out.len());
+    out[..count].copy_from_slice(&text[..count]);
     count
 }
 
@@ -51,83 +45,52 @@ pub extern "C" fn dotmuslin_read(image: &[u8], line: &[u8], judge: u8, out: &mut
     );
     let text: InlineText<16384> = match read {
         Ok(()) => InlineText::of(ReadingText { book: &book }),
-        Err(refusal) => InlineText::of(RefusedText { refusal }),
+        Err(refusal) => InlineText::of(refusal),
     };
     copy(text.as_str().as_bytes(), out)
 }
 
-// Reads a line so many times over the same tables, and tells the orders that were read in all.
-fn repeat<R: Register, J: Judge>(register: &R, judge: &J, line: &Line, rounds: u64) -> u64 {
-    let mut parser = InvocationParser::new();
-    let mut book = Book::new();
+// Sums the orders of so many rounds.
+fn sum<F: FnMut() -> usize>(rounds: u64, mut round: F) -> u64
+    requires { F.IsAlwaysCallable round }
+{
     let mut orders: u64 = 0;
     for _ in 0..rounds {
-        if let Ok(()) = parser.parse_invocations(register, judge, line, &mut book) {
-            orders = orders.saturating_add(book.orders().len() as u64);
-        }
+        orders = orders.saturating_add(round() as u64);
     }
     orders
-}
-
-fn repeat_over<'a>(
-    image: &'a [u8],
-    tables: &'a mut Tables,
-    judge: u8,
-    line: &Line,
-    rounds: u64,
-) -> u64 {
-    let loaded = load(image, tables);
-    repeat(
-        &loaded.register,
-        &chosen(loaded, choice_of(judge)),
-        line,
-        rounds,
-    )
 }
 
 // Checks the image and cuts the line once, and reads it so many times: for measuring.
 #[unsafe(no_mangle)]
 pub extern "C" fn dotmuslin_repeat(image: &[u8], line: &[u8], judge: u8, rounds: u64) -> u64 {
+    let Ok(line) = Line::cut(line) else {
+        return 0;
+    };
     let mut tables = Tables::new();
-    match Line::cut(line) {
-        Ok(line) => repeat_over(image, &mut tables, judge, &line, rounds),
-        Err(_) => 0,
-    }
+    let loaded = load(image, &mut tables);
+    let judge = chosen(loaded, choice_of(judge));
+    let mut parser = InvocationParser::new();
+    let mut book = Book::new();
+    sum(rounds, || {
+        parser
+            .parse_invocations(&loaded.register, &judge, &line, &mut book)
+            .map_or(0, |()| book.orders().len())
+    })
 }
 
-// Admits a line and withdraws it again so many times on one console, and tells the orders that were accepted in all.
-fn admit_all<R: Register, J: Judge>(register: &R, judge: &J, line: &[u8], rounds: u64) -> u64 {
-    let mut console = Console::new(1, 1);
-    let mut orders: u64 = 0;
-    for _ in 0..rounds {
-        if let Ok(admitted) = console.admit(register, judge, line) {
-            orders = orders.saturating_add(admitted.orders as u64);
-        }
-        let _ = console.withdraw();
-    }
-    let _ = console.end();
-    orders
-}
-
-fn admit_over<'a>(
-    image: &'a [u8],
-    tables: &'a mut Tables,
-    judge: u8,
-    line: &[u8],
-    rounds: u64,
-) -> u64 {
-    let loaded = load(image, tables);
-    admit_all(
-        &loaded.register,
-        &chosen(loaded, choice_of(judge)),
-        line,
-        rounds,
-    )
-}
-
-// Checks the image once, and has a console admit the line so many times: for measuring.
+// Checks the image once, and has a console admit the line and withdraw it again so many times: for measuring.
 #[unsafe(no_mangle)]
 pub extern "C" fn dotmuslin_admit(image: &[u8], line: &[u8], judge: u8, rounds: u64) -> u64 {
     let mut tables = Tables::new();
-    admit_over(image, &mut tables, judge, line, rounds)
+    let loaded = load(image, &mut tables);
+    let judge = chosen(loaded, choice_of(judge));
+    let mut console = Console::new(1, 1);
+    let orders = sum(rounds, || {
+        let admitted = console.admit(&loaded.register, &judge, line);
+        let _ = console.withdraw();
+        admitted.map_or(0, |admitted| admitted.orders)
+    });
+    let _ = console.end();
+    orders
 }

@@ -22,11 +22,11 @@ use Rattle.console.proofs.Waiting.{Sane, idle}
 
 -- a view with other rows
 abbrev pub with_rows : View → List OrderRow → List ℕ → List ValueRow → List ℕ → View
-with_rows v rows bytes values shown' = record { number = v.number; first = v.first; base = v.base; total = v.total; at = v.at; out = v.out; count = v.count; rows = rows; bytes = bytes; values = values; shown = shown' }
+with_rows v rows bytes values shown' = record v { rows = rows; bytes = bytes; values = values; shown = shown' }
 
 -- a view that keeps a new line
 abbrev pub with_line : View → ℕ → ℕ → List OrderRow → List ℕ → List ValueRow → List ℕ → View
-with_line v n all rows bytes values shown' = record { number = v.number; first = v.first; base = v.total; total = all; at = 0; out = v.out; count = n; rows = rows; bytes = bytes; values = values; shown = shown' }
+with_line v n all rows bytes values shown' = record v { base = v.total; total = all; at = 0; count = n; rows = rows; bytes = bytes; values = values; shown = shown' }
 
 -- nothing is kept where none is out and none waits
 pub kept_none : (v : View) → v.count ≤ v.at → kept_in v ≡ []
@@ -141,25 +141,6 @@ module _ (h : History) (v : View) (k : Coupled h v) (z : Sane v) (end : v.count 
           }
 
 -- The same of consoles.
-
--- a line that is not even read leaves the tie as it was
-pub unread_couples : (h : History) (v : View) (a : Asked) (r : Refusal) → Coupled h v → Coupled (h ▹ unadmitted a r) v
-unread_couples h v a r k = record {
-  number_is = k.number_is;
-  first_is = k.first_is;
-  total_is = k.total_is;
-  latest_is = k.latest_is;
-  out_in = k.out_in;
-  in_out = k.in_out;
-  ack_in = k.ack_in;
-  drop_in = k.drop_in;
-  in_drop = k.in_drop;
-  done = λ n lt w. k.done n lt (record { within = w.within; not_out = w.not_out; not_acknowledged = w.not_acknowledged; not_withdrawn = w.not_withdrawn });
-  fresh = k.fresh;
-  shown_is = k.shown_is;
-  order_is = k.order_is;
-  balance = k.balance;
-}
 
 pub sane : (s : Console) → Sane (view s)
 sane s = record { reached = s.reached; counted = s.counted; shows = s.shows }

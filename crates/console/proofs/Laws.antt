@@ -85,10 +85,10 @@ busy_or : {h : History} {a : Asked} {r : Refusal} → TurnsDown h a r → r ≡ 
 busy_or (TurnsDown.kept b) e = b
 busy_or (TurnsDown.limit i over) e = absurd (not_state _ _ (plain_limit over) refl e)
 busy_or (TurnsDown.fault i words w f) e = absurd (not_state _ _ (plain_fault f.right) refl e)
-busy_or (TurnsDown.serials i reading rs over) e = let z : ◌≡◌ {A = ℕ} 0 1 = cc in let b : ⊥ = omega arith in absurd b
+busy_or (TurnsDown.serials i reading rs over) e = cc
 
 passes_or : {h : History} {a : Asked} {r : Refusal} → TurnsDown h a r → r ≡ SerialsEnd → Idle h × ((reading : Reading) × ReadsAs a reading × PassesTop h reading)
-passes_or (TurnsDown.kept b) e = let z : ◌≡◌ {A = ℕ} 0 1 = cc in let b : ⊥ = omega arith in absurd b
+passes_or (TurnsDown.kept b) e = cc
 passes_or (TurnsDown.limit i over) e = absurd (not_state _ _ (plain_limit over) refl e)
 passes_or (TurnsDown.fault i words w f) e = absurd (not_state _ _ (plain_fault f.right) refl e)
 passes_or (TurnsDown.serials i reading rs over) e = (i, (reading, rs, over))
@@ -114,9 +114,7 @@ module _ (a : Asked) (words : List Text) (reading : Reading) (within : Within a.
   enters (TurnsDown.limit i over) idle = absurd (line_stands.apart a.line words _ within over)
   enters (TurnsDown.fault {r} i ws w f) idle =
       let e : ◌≡◌ {A = Result Reading Refusal} (Ok reading) (Err r) = f.only (Ok reading) (moved ws w) in
-      let z : ◌≡◌ {A = ℕ} 0 1 = cc in
-      let b : ⊥ = omega arith in
-      absurd b
+      cc
   enters {h} (TurnsDown.serials i other rs over) idle = (refl, subst (PassesTop h) (sym (same_reading other rs)) over)
 
 -- a fault read with other words is a fault of these
@@ -127,8 +125,7 @@ moved_fault a words others r v w f = subst (λ (ws : List Text). line.FirstFault
 read_no_fault : (a : Asked) (reading : Reading) (words : List Text) (r : Refusal) → ReadsAs a reading → Within a.line words → line.FirstFault a.names a.signatures a.judge words r → ⊥
 read_no_fault a reading words r rs w f =
     let e : ◌≡◌ {A = Result Reading Refusal} (Err r) (Ok reading) = rs.only.only (Err r) (moved_fault a words rs.words r w rs.within f) in
-    let z : ◌≡◌ {A = ℕ} 0 1 = cc in
-    omega arith
+    cc
 
 same_fault : (a : Asked) (words others : List Text) (r s : Refusal) → Within a.line words → Within a.line others → line.OnlyReading a.names a.signatures a.judge words (Err r) → line.OnlyReading a.names a.signatures a.judge others (Err s) → r ≡ s
 same_fault a words others r s v w f g =
@@ -167,7 +164,7 @@ never_both h a keeps r t (TurnsDown.serials i other rs past) =
 
 issue_exactly : (h : History) (keeps : List Kept) (r : Result (Slip × Issued) Refusal) → Right h (issue keeps r) → (is_ok r ≡ true) ↔ (Free h × ((n : ℕ) × Waits h n))
 issue_exactly h keeps (Ok p) t = (λ _. (t.free, (t.n, t.next.waits)), λ _. refl)
-issue_exactly h keeps (Err r) t = (λ e. let z : ◌≡◌ {A = ℕ} 0 1 = cc in let b : ⊥ = omega arith in absurd b, λ w. absurd (no_way t w))
+issue_exactly h keeps (Err r) t = (λ e. cc, λ w. absurd (no_way t w))
   where
     no_way : ShowsNot h r → Free h × ((n : ℕ) × Waits h n) → ⊥
     no_way (inl x) w = w.0 x.1.0 x.1.1
@@ -239,11 +236,11 @@ as_read (h ▹ e) l n lt = read_step h e (as_read h l.0) l.1 n lt
 
 acknowledge_exactly : (h : History) (s : Slip) (r : Result (Unit {0}) (Slip × Refusal)) → Right h (acknowledge s r) → (is_ok r ≡ true) ↔ Fits h s
 acknowledge_exactly h s (Ok u) t = (λ _. t, λ _. refl)
-acknowledge_exactly h s (Err p) t = (λ e. let z : ◌≡◌ {A = ℕ} 0 1 = cc in let b : ⊥ = omega arith in absurd b, λ f. absurd (t.unfit f))
+acknowledge_exactly h s (Err p) t = (λ e. cc, λ f. absurd (t.unfit f))
 
 lost_exactly : (h : History) (s : Slip) (r : Result (Unit {0}) (Slip × Refusal)) → Right h (lost s r) → (is_ok r ≡ true) ↔ Fits h s
 lost_exactly h s (Ok u) t = (λ _. t, λ _. refl)
-lost_exactly h s (Err p) t = (λ e. let z : ◌≡◌ {A = ℕ} 0 1 = cc in let b : ⊥ = omega arith in absurd b, λ f. absurd (t.unfit f))
+lost_exactly h s (Err p) t = (λ e. cc, λ f. absurd (t.unfit f))
 
 -- What is kept.
 

@@ -49,8 +49,7 @@ under_row v serial k e = go (dec_lt v.at v.count) (dec_lt serial (v.first + v.ba
     never : ((i : ℕ) → v.at < v.count → i < v.count → ¬ (serial ≡ v.first + v.base + i)) → ⊥
     never none =
         let q : at_serial serial (kept_in v) ≡ None = none_under v serial none in
-        let z : ◌≡◌ {A = ℕ} 0 1 = cc in
-        omega arith
+        cc
 
     go : Dec (v.at < v.count) → Dec (serial < v.first + v.base) → Dec (serial < v.first + v.base + v.count) → (i : ℕ) × (v.at < v.count) × (i < v.count) × (serial ≡ v.first + v.base + i) × (k ≡ kept_at v i)
     go (no a) b c = absurd (never (λ i lt ic q. a lt))

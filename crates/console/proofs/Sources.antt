@@ -1,51 +1,41 @@
 -- Where the first text of a parameter stands, and what a readback tells of it.
-use Rattle.std.proofs.Common.{◌≡◌, ℕ, ◌+◌, ◌-◌, ◌<◌, ◌≤◌, Bool, true, false, eqb, List, [], ◌∷◌, map, length, get_or, drop, Some, None, Ok, Err, Option, Result, sym, refl, ap, ◌∙◌, inl, inr, arith}
+use Rattle.std.proofs.Common.{◌≡◌, ◌≢◌, ◌⊎◌, ℕ, ◌+◌, ◌-◌, ◌<◌, ◌≤◌, true, false, eqb, List, [], ◌∷◌, map, length, Some, None, Ok, Err, Option, sym, refl, ap, ◌∙◌, inl, inr, arith}
+use Rattle.std.specs.List.{find}
 use Rattle.std.specs.Option.{option_map, option_or}
-use Rattle.std.proofs.lemmas.List.{at_drop_more}
-use Rattle.refusal.specs.declared.Refusal.{Refusal}
 use Rattle.refusal.specs.declared.Refusal.TheVariants.{NoSuchParameter, NotKept}
 use Rattle.register.specs.Meaning.{SignatureMeaning}
-use Rattle.std.proofs.lemmas.Bool.{eq-eqb, ne_eqb, cond-true, cond-false}
+use Rattle.std.proofs.lemmas.Bool.{eq-eqb, ne_eqb}
+use Rattle.std.proofs.lemmas.Bool.Decides.{eqb_tells}
 use Rattle.text.specs.Identifier.{Text}
 use Rattle.reader.specs.Meaning.{value_of, source_text}
-use Rattle.reader.specs.declared.source.Source.{Source}
 use Rattle.reader.specs.declared.source.ValueRow.{ValueRow}
 use Rattle.reading.specs.Reading.{Value, group}
 use Rattle.reading.specs.Line.{shifted_value}
 use Rattle.book.specs.Kept.{row_kept}
 use Rattle.book.specs.declared.order_row.OrderRow.{OrderRow}
 use Rattle.console.specs.Keeps.{View}
-use Rattle.console.specs.History.{History, ◌▹◌, readback, order_of, recipe_of}
+use Rattle.console.specs.History.{History, order_of, recipe_of}
 use Rattle.console.specs.Right.{first_text, text_of, KeptUnder, ReadsBack}
 use Rattle.console.specs.State.{Coupled, FoundRow}
-use Rattle.console.specs.Texts.{first_source}
 use Rattle.console.proofs.Waiting.{Sane, kept_row, row_is_kept}
 
-pub source_hit : (k : ℕ) (rows : List ValueRow) (i : ℕ) (d : ValueRow) → i < length rows → (get_or rows i d).parameter ≡ k → first_source k (drop i rows) ≡ Some (get_or rows i d).source
-source_hit k rows i d h e = at_drop_more (first_source k) rows i d h ∙ cond-true _ _ _ (eq-eqb _ _ (sym e))
-
-pub source_miss : (k : ℕ) (rows : List ValueRow) (i : ℕ) (d : ValueRow) → i < length rows → ((get_or rows i d).parameter ≡ k → ⊥) → first_source k (drop i rows) ≡ first_source k (drop (i + 1) rows)
-source_miss k rows i d h e = at_drop_more (first_source k) rows i d h ∙ cond-false _ _ _ (ne_eqb _ _ (λ s. e (sym s)))
-
 -- the first text of a group stands where the first row of its parameter says
-pub first_text_lem : (bytes : List ℕ) (first k : ℕ) (rows : List ValueRow) → first_text (group k (map (shifted_value first) (map (value_of bytes) rows))) None ≡ option_map (source_text bytes) (first_source k rows)
+pub first_text_lem : (bytes : List ℕ) (first k : ℕ) (rows : List ValueRow) → first_text (group k (map (shifted_value first) (map (value_of bytes) rows))) None ≡ option_map (source_text bytes) (option_map (λ row. row.source) (find (λ row. eqb row.parameter k) rows))
 first_text_lem bytes first k [] = refl
-first_text_lem bytes first k (row ∷ rows) = go (eqb k row.parameter) refl (first_text_lem bytes first k rows)
+first_text_lem bytes first k (row ∷ rows) = go (eqb_tells row.parameter k) (first_text_lem bytes first k rows)
   where
-    go : (b : Bool) → eqb k row.parameter ≡ b → first_text (group k (map (shifted_value first) (map (value_of bytes) rows))) None ≡ option_map (source_text bytes) (first_source k rows) → first_text (group k (map (shifted_value first) (map (value_of bytes) (row ∷ rows)))) None ≡ option_map (source_text bytes) (first_source k (row ∷ rows))
-    go true t e = rw t refl
-    go false f e = rw f e
+    go : ((eqb row.parameter k ≡ true) × (row.parameter ≡ k)) ⊎ ((eqb row.parameter k ≡ false) × (row.parameter ≢ k)) → first_text (group k (map (shifted_value first) (map (value_of bytes) rows))) None ≡ option_map (source_text bytes) (option_map (λ row. row.source) (find (λ row. eqb row.parameter k) rows))
+        → first_text (group k (map (shifted_value first) (map (value_of bytes) (row ∷ rows)))) None ≡ option_map (source_text bytes) (option_map (λ row. row.source) (find (λ row. eqb row.parameter k) (row ∷ rows)))
+    go (inl x) ih = rw (x.0, eq-eqb k row.parameter (sym x.1)) refl
+    go (inr x) ih = rw (x.0, ne_eqb k row.parameter (λ e. x.1 (sym e))) ih
 
 -- what stands in for the first text counts only where there is none
 instead_of : (vs : List Value) (instead : Option Text) → first_text vs instead ≡ option_or (first_text vs None) instead
 instead_of [] instead = refl
 instead_of (v ∷ vs) instead = refl
 
-pub text_there : (vs : List Value) (instead : Option Text) (t : Text) → Some t ≡ first_text vs None → Some t ≡ first_text vs instead
-text_there vs instead t e = ap (λ o. option_or o instead) e ∙ sym (instead_of vs instead)
-
-pub no_text_there : (vs : List Value) (instead d : Option Text) → d ≡ instead → None ≡ first_text vs None → d ≡ first_text vs instead
-no_text_there vs instead d is e = is ∙ ap (λ o. option_or o instead) e ∙ sym (instead_of vs instead)
+pub text_or : (vs : List Value) (instead found t : Option Text) → found ≡ first_text vs None → t ≡ option_or found instead → t ≡ first_text vs instead
+text_or vs instead found t e is = is ∙ ap (λ o. option_or o instead) e ∙ sym (instead_of vs instead)
 
 module _ (h : History) (v : View) (k : Coupled h v) (z : Sane v) (serial : ℕ) where
   -- a row's serial is that of a kept order
@@ -57,30 +47,6 @@ module _ (h : History) (v : View) (k : Coupled h v) (z : Sane v) (serial : ℕ) 
   not_under none n q =
       let r = row_is_kept h v k z n q.kept in
       none (n - v.base) r.0 (omega (arith, r.1, r.2)) (omega (arith, r.1, q.serial, k.first_is))
-
--- the text at a source that was found among rows
-pub told_at : (bytes : List ℕ) (first k : ℕ) (rows found : List ValueRow) (source : Option Source) → source ≡ first_source k found → found ≡ rows → option_map (source_text bytes) source ≡ first_text (group k (map (shifted_value first) (map (value_of bytes) rows))) None
-told_at bytes first k rows found source e q = ap (option_map (source_text bytes)) (e ∙ ap (first_source k) q) ∙ sym (first_text_lem bytes first k rows)
-
--- A call that changes nothing and counts for nothing.
-
-pub told_nothing : (h : History) (v : View) (sig : SignatureMeaning) (serial parameter : ℕ) (r : Result (Option Text) Refusal) → Coupled h v → Coupled (h ▹ readback sig serial parameter r) v
-told_nothing h v sig serial parameter r k = record {
-  number_is = k.number_is;
-  first_is = k.first_is;
-  total_is = k.total_is;
-  latest_is = k.latest_is;
-  out_in = k.out_in;
-  in_out = k.in_out;
-  ack_in = k.ack_in;
-  drop_in = k.drop_in;
-  in_drop = k.in_drop;
-  done = λ n lt w. k.done n lt (record { within = w.within; not_out = w.not_out; not_acknowledged = w.not_acknowledged; not_withdrawn = w.not_withdrawn });
-  fresh = k.fresh;
-  shown_is = k.shown_is;
-  order_is = k.order_is;
-  balance = k.balance;
-}
 
 module _ (h : History) (v : View) (k : Coupled h v) (z : Sane v) (sig : SignatureMeaning) (serial parameter : ℕ) where
   -- nothing is kept under the serial

@@ -13,11 +13,11 @@ use Rattle.console.proofs.Serials.{kept_under}
 
 -- a view with another number of rows
 abbrev pub with_count : View → ℕ → View
-with_count v count = record { number = v.number; first = v.first; base = v.base; total = v.total; at = v.at; out = v.out; count = count; rows = v.rows; bytes = v.bytes; values = v.values; shown = v.shown }
+with_count v count = record v { count = count }
 
 -- a view whose next order is out, with what is shown
 abbrev pub with_out : View → List ℕ → View
-with_out v shown' = record { number = v.number; first = v.first; base = v.base; total = v.total; at = v.at; out = true; count = v.count; rows = v.rows; bytes = v.bytes; values = v.values; shown = shown' }
+with_out v shown' = record v { out = true; shown = shown' }
 
 module _ (h : History) (v : View) (k : Coupled h v) (z : Sane v) where
   pub withdraw_couples : (o m stays : ℕ) → o ≡ cond v.out 1 0 → stays ≡ v.at + o → stays ≤ v.count → m ≡ v.count - stays → Coupled (h ▹ withdraw m) (with_count v stays)

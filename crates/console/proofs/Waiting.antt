@@ -1,9 +1,9 @@
 -- What waits, is out and is kept, by the state that the history led to.
-use Rattle.std.proofs.Common.{◌≡◌, ℕ, zero, suc, ◌+◌, ◌-◌, ◌<◌, ◌≤◌, min, Bool, true, false, cond, ◌⊎◌, length, sym, refl, ◌∙◌, subst, inl, inr, arith}
+use Rattle.std.proofs.Common.{◌≡◌, ℕ, zero, suc, ◌+◌, ◌-◌, ◌<◌, ◌≤◌, min, Bool, true, false, cond, ◌⊎◌, length, get_or, is_some, Some, Option, sym, refl, ap, ◌∙◌, subst, inl, inr, arith}
 use native.Mathlib.Decide.{dec_lt}
-use Rattle.console.specs.Keeps.{View}
-use Rattle.console.specs.History.{History, Counted, none, one, skip, Waits, Out, Idle, Busy, IsKept, Free, First, orders}
-use Rattle.console.specs.Right.{Outs, Withdraws}
+use Rattle.console.specs.Keeps.{View, order_at}
+use Rattle.console.specs.History.{Event, History, ◌▹◌, Deed, deed, nothing, orders_by, no_accepted, Counted, none, one, skip, Waits, Out, Idle, Busy, IsKept, Free, First, orders}
+use Rattle.console.specs.Right.{Outs, Told, Withdraws}
 use Rattle.console.specs.State.{Coupled}
 
 -- of the numbers below n, those from lo to hi have P, and no others
@@ -20,6 +20,25 @@ between P lo hi below inside above (suc n) =
       ]
     ] in
     step (dec_lt n lo) (dec_lt n hi)
+
+-- a call that did nothing leaves the tie as it was
+pub nothing_couples : (h : History) (v : View) (e : Event) → deed e ≡ nothing → Coupled h v → Coupled (h ▹ e) v
+nothing_couples h v e q k = record {
+  number_is = k.number_is;
+  first_is = k.first_is;
+  total_is = rw q k.total_is;
+  latest_is = rw q k.latest_is;
+  out_in = rw q k.out_in;
+  in_out = rw q k.in_out;
+  ack_in = rw q k.ack_in;
+  drop_in = rw q k.drop_in;
+  in_drop = rw q k.in_drop;
+  done = λ n lt w. k.done n lt (record { within = rw q at w.within; not_out = rw q at w.not_out; not_acknowledged = rw q at w.not_acknowledged; not_withdrawn = rw q at w.not_withdrawn });
+  fresh = rw q k.fresh;
+  shown_is = rw q k.shown_is;
+  order_is = subst (λ (d : Deed). (i : ℕ) → v.at < v.count → i < v.count → order_at v i ≡ (get_or (orders_by d (orders h)) (v.base + i) no_accepted).order) (sym q) k.order_is;
+  balance = rw q k.balance;
+}
 
 -- what always holds of a console's parts
 pub record Sane (v : View) : Type 0 where
@@ -49,7 +68,7 @@ module _ (h : History) (v : View) (k : Coupled h v) (z : Sane v) where
     where
       out : (b : Bool) → b ≡ true → o ≡ cond b 1 0 → n ≡ v.base + v.at → ⊥
       out true t q s = omega arith
-      out false t q s = let c : ◌≡◌ {A = ℕ} 0 1 = cc in omega arith
+      out false t q s = cc
 
       drop : (n < v.base) ⊎ (v.base + v.count ≤ n) → ⊥
       drop (inl a) = omega arith
@@ -91,10 +110,7 @@ module _ (h : History) (v : View) (k : Coupled h v) (z : Sane v) where
       go (no a) w = gone n (omega arith) w
 
   pub free : v.out ≡ false → Free h
-  free f n o = let y : v.out ≡ true = (k.out_in n o).0 in let c : ◌≡◌ {A = ℕ} 0 1 = no_way v.out f y in omega arith
-    where
-      no_way : (b : Bool) → b ≡ false → b ≡ true → ◌≡◌ {A = ℕ} 0 1
-      no_way b f t = cc
+  free f n o = let y : v.out ≡ true = (k.out_in n o).0 in cc
 
   -- the order at `at` is out, or else the first that waits
   pub first : v.out ≡ false → v.at < v.count → First h (v.base + v.at)
@@ -155,6 +171,17 @@ module _ (h : History) (v : View) (k : Coupled h v) (z : Sane v) where
       go : (b : Bool) → v.out ≡ b → ◌≡◌ {A = ℕ} 0 (cond b 1 0)
       go true t = absurd (f (v.base + v.at) (k.in_out t))
       go false t = refl
+
+  -- status's answer
+  pub tells : (m : ℕ) (out : Option ℕ) → m ≡ v.count - (v.at + cond v.out 1 0) → is_some out ≡ v.out → ((serial : ℕ) → out ≡ Some serial → serial ≡ v.first + v.base + v.at) → Told h (record { waiting = m; out = out })
+  tells m out e is shows =
+      let o : ℕ = cond v.out 1 0 in
+      let fits : v.at + o ≤ v.count = out_fits v z in record {
+        waiting = rw e (waiting o refl);
+        out = λ serial q. (v.base + v.at, k.in_out (sym is ∙ ap is_some q), shows serial q ∙ omega (arith, k.first_is));
+        none = λ q. free (sym is ∙ ap is_some q);
+        balance = rw is (omega (arith, k.total_is, k.balance));
+      }
 
   -- withdraw's answer
   pub withdraws : (o m : ℕ) → o ≡ cond v.out 1 0 → v.at + o ≤ v.count → m ≡ v.count - (v.at + o) → Withdraws h m

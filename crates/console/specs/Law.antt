@@ -1,5 +1,5 @@
 -- The law of the console over every history, and what follows from it in the words of its users. Assumes nothing.
-use Rattle.std.specs.Prelude.{◌≡◌, ℕ, ◌+◌, ◌^◌, ◌<◌, min, true, cond, ◌↔◌, List, [], ◌∷◌, length, is_ok, Some, Ok, Result, ◌≢◌, slice_index_or}
+use Rattle.std.specs.Prelude.{◌≡◌, ℕ, ◌+◌, ◌^◌, ◌<◌, min, true, cond, ◌↔◌, List, [], ◌∷◌, length, is_ok, is_some, Some, Ok, Result, ◌≢◌, slice_index_or}
 use Rattle.refusal.specs.declared.Refusal.{Refusal}
 use Rattle.refusal.specs.declared.Refusal.TheVariants.{LineKept, SerialsEnd}
 use Rattle.text.specs.Identifier.{Text}
@@ -74,5 +74,5 @@ pub record LawStands : Type 0 where
   pub lost_exactly : (h : History) (s : Slip) (r : Result (Unit {0}) (Slip × Refusal)) → Right h (lost s r) → (is_ok r ≡ true) ↔ Fits h s
   -- Balance: accepted orders are acknowledged, withdrawn, waiting or out.
 
-  pub status_balance : (h : History) (t : Status) → Right h (status t) → Balanced h t.waiting (cond t.out 1 0)
+  pub status_balance : (h : History) (t : Status) → Right h (status t) → Balanced h t.waiting (cond (is_some t.out) 1 0)
   pub withdraw_balance : (h : History) (waiting out : ℕ) → Right h (withdraw waiting) → Outs h out → Balanced h waiting out

@@ -2,5 +2,4 @@ pub mod Keeps
 pub mod History
 pub mod Right
 pub mod State
-pub mod Texts
 pub mod Law

@@ -1,5 +1,5 @@
 -- The right answer to each call of a console, after the calls before it. Assumes nothing.
-use Rattle.std.specs.Prelude.{◌≡◌, ℕ, ◌+◌, ◌^◌, ◌<◌, ◌≤◌, min, true, false, cond, ◌⊎◌, List, [], ◌∷◌, map, length, Some, Ok, Err, Option, Result, slice_index_or}
+use Rattle.std.specs.Prelude.{◌≡◌, ℕ, ◌+◌, ◌^◌, ◌<◌, ◌≤◌, min, cond, is_some, ◌⊎◌, List, [], ◌∷◌, map, length, Some, None, Ok, Err, Option, Result, slice_index_or}
 use Rattle.std.specs.Option.{option_map}
 use Rattle.refusal.specs.declared.Refusal.{Refusal}
 use Rattle.refusal.specs.declared.Refusal.TheVariants.{NoSuchParameter, LineKept, SerialsEnd, OrderOut, NoneWaiting, WrongSlip, NotKept}
@@ -93,12 +93,12 @@ pub record Withdraws (h : History) (waiting : ℕ) : Type 0 where
   pub waited : Counted (Waits h) (length (orders h)) waiting
   pub balance : (out : ℕ) → Outs h out → Balanced h waiting out
 
--- what status tells: how many wait, whether one is out, and its serial or 0
+-- what status tells: how many wait, and the serial of the order that is out, if one is
 pub record Told (h : History) (t : Status) : Type 0 where
   pub waiting : Counted (Waits h) (length (orders h)) t.waiting
-  pub out : t.out ≡ true → (n : ℕ) × Out h n × (t.serial ≡ serial_of h n)
-  pub none : t.out ≡ false → Free h × (t.serial ≡ 0)
-  pub balance : Balanced h t.waiting (cond t.out 1 0)
+  pub out : (serial : ℕ) → t.out ≡ Some serial → (n : ℕ) × Out h n × (serial ≡ serial_of h n)
+  pub none : t.out ≡ None → Free h
+  pub balance : Balanced h t.waiting (cond (is_some t.out) 1 0)
 
 -- the first text of a group, or else what stands in for it
 abbrev pub first_text : List Value → Option Text → Option Text

@@ -1,7 +1,8 @@
 -- How a console's state keeps what matters of its history. Assumes nothing.
-use Rattle.std.specs.Prelude.{◌≡◌, ℕ, ◌+◌, ◌-◌, ◌<◌, ◌≤◌, min, true, ◌⊎◌, length, Some, None, Ok, Err, Option, Result, slice_index, slice_index_or}
+use Rattle.std.specs.Prelude.{◌≡◌, ℕ, ◌+◌, ◌-◌, ◌<◌, ◌≤◌, min, true, false, ◌⊎◌, length, Some, None, Ok, Err, Option, Result, slice_index, slice_index_or}
 use Rattle.std.specs.Option.{option_map}
 use Rattle.refusal.specs.declared.Refusal.{Refusal}
+use Rattle.refusal.specs.declared.Refusal.TheVariants.{WrongSlip}
 use Rattle.text.specs.Identifier.{Text}
 use Rattle.book.specs.declared.order_row.OrderRow.{OrderRow}
 use Rattle.console.specs.Keeps.{View, view, kept, no_row, order_at}
@@ -10,6 +11,7 @@ use Rattle.console.specs.Right.{Lawful, Right}
 use Rattle.console.specs.declared.admitted.Admitted.{Admitted}
 use Rattle.console.specs.declared.issued.Issued.{Issued}
 use Rattle.console.specs.declared.status.Status.{Status}
+use Rattle.console.specs.declared.console.slip.Slip.{Slip}
 use Rattle.console.specs.declared.console.Console.{Console}
 
 -- The line's order in row i is the order base + i since the making. Those below `at` are done, the one at `at` is out or waits, those behind it wait; those from `count` on were withdrawn.
@@ -62,6 +64,15 @@ pub record Unchanged (before after : Console) : Type 0 where
 abbrev pub Leaves : {X E : Type 0} → Result X E → Console → Console → Type 0
 Leaves (Ok x) before after = Unit {0}
 Leaves (Err e) before after = Unchanged before after
+
+-- the slip of the order that is out
+abbrev pub Owed : Console → Slip → Type 0
+Owed c slip = (c.out ≡ true) × (slip.number ≡ c.number) × (slip.serial ≡ c.first + c.base + c.at)
+
+-- the slip of the order that is out is spent, and the order waits again; any other slip comes back, and nothing differs
+abbrev pub TakesBack : Slip → Console → Result (Unit {0}) (Slip × Refusal) → Console → Type 0
+TakesBack slip before (Ok u) after = Owed before slip × (view after ≡ record (view before) { out = false })
+TakesBack slip before (Err e) after = (¬ Owed before slip) × (e ≡ (slip, WrongSlip)) × (after ≡ before)
 
 -- an answer with the texts that its references point to
 abbrev pub texts : {X : Type 0} → (X → Text) → Result (Option X) Refusal → Result (Option Text) Refusal

@@ -1,7 +1,7 @@
 -- How a part that is still to be read leads to the whole: what the part gives, the whole gives.
-use Rattle.std.proofs.Common.{◌≡◌, ℕ, suc, List, ◌∷◌, Some, Option, subst, inl, inr}
+use Rattle.std.proofs.Common.{◌≡◌, ℕ, List, subst, inl, inr}
 use Rattle.refusal.specs.declared.Refusal.{Refusal}
-use Rattle.format.specs.Format.{Format, Good, both, named, rows}
+use Rattle.format.specs.Format.{Format, Good, both, named}
 use Rattle.format.proofs.Stands.{joins}
 
 pub record Leads {A B : Type 0} (image : List ℕ) (whole : Format A) (from : ℕ) (part : Format B) (at : ℕ) (make : B → A) : Type 0 where
@@ -20,16 +20,6 @@ module _ {A B C : Type 0} {image : List ℕ} {whole : Format A} {from : ℕ} (f 
   unfolding both
   passes b m s = record {
     on = λ c to t. l.on (b, c) to (record { keeps = (s.keeps, t.keeps); stands = joins (f.bytes b) ((g b).bytes c) image at m to s.stands t.stands });
-    off = λ e w. l.off e (inr (record { first = b; to = m; good = s; fault = w }));
-  }
-
-module _ {A B : Type 0} (image : List ℕ) (whole : Format A) (from : ℕ) (row : Option B → Format B) (last : Option B) (n at : ℕ) (make : List B → A) (l : Leads image whole from (rows row last (suc n)) at make) where
-  pub row_stops : (e : Refusal) → (row last).Faulty image at e → whole.Faulty image from e
-  row_stops e w = l.off e (inl w)
-
-  pub row_passes : (b : B) (m : ℕ) → Good (row last) image at b m → Leads image whole from (rows row (Some b) n) m (λ rs. make (b ∷ rs))
-  row_passes b m s = record {
-    on = λ rs to t. l.on (b ∷ rs) to (record { keeps = (s.keeps, t.keeps); stands = joins ((row last).bytes b) ((rows row (Some b) n).bytes rs) image at m to s.stands t.stands });
     off = λ e w. l.off e (inr (record { first = b; to = m; good = s; fault = w }));
   }
 

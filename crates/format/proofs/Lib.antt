@@ -1,9 +1,9 @@
 pub mod Stands
 pub mod Certain
-pub mod Placed
 pub mod Bitwise
 pub mod Leads
 pub mod Towards
 pub mod Filling
 pub mod Rules
 pub mod Whole
+pub mod Calls

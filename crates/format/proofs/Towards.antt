@@ -1,12 +1,11 @@
 -- A cursor on its way through a part of an image.
-use Rattle.std.proofs.Common.{◌≡◌, ℕ, suc, ◌+◌, ◌<◌, List, [], ◌∷◌, ◌++◌, map, length, take, set, IsErrAnd, Some, Ok, Err, Option, Result, sym, refl, ap, ◌∙◌, subst, inl, inr, add-zero}
-use Rattle.std.proofs.lemmas.List.{take_more_set, map_push, append_assoc}
+use Rattle.std.proofs.Common.{◌≡◌, ℕ, List, IsErrAnd, Ok, Err, Result, sym, refl, ap, ◌∙◌, subst, inr}
 use Rattle.std.proofs.lemmas.Result.{err_from_is_err_and}
 use Rattle.refusal.specs.declared.Refusal.{Refusal}
-use Rattle.format.specs.Format.{Format, Good, checked, both, named, rows}
+use Rattle.format.specs.Format.{Format, Good, checked, both, named}
 use Rattle.format.specs.Reads.{Says, Reads}
 use Rattle.format.specs.declared.cursor.Cursor.{Cursor}
-use Rattle.format.proofs.Leads.{Leads, start, stops, passes, row_passes, by_name}
+use Rattle.format.proofs.Leads.{Leads, start, stops, passes, by_name}
 
 -- the whole from cursor c is read up to cursor d, where the part is next; make says what the part's value makes of the whole
 pub record Towards {A B : Type 0} (whole : Format A) (c : Cursor) (part : Format B) (d : Cursor) (make : B → A) : Type 0 where
@@ -62,40 +61,3 @@ module _ {A V : Type 0} (refusal : ℕ → Refusal) (Rule : A → Type 0) (f : F
 
   pub broke : {W : Type 0} (outs : List ℕ → W → A) (v : V) → r ≡ Ok v → (Rule (told c.image.now v) → ⊥) → Reads (checked refusal Rule f) outs c (Err (refusal c.at)) e
   broke outs v is k = record { same = s.same; says = inr (record { value = told c.image.now v; to = e.at; good = got f told c c e r refl s v is; broken = k }, refl) }
-
-  pub before : {W : Type 0} (outs : List ℕ → W → A) {out : Result W Refusal} {x : Refusal} → r ≡ Err x → IsErrAnd out (λ y. y ≡ x) → Reads (checked refusal Rule f) outs c out e
-  before outs {out} {x} is o = refuses (checked refusal Rule f) outs c e out x s.same (was out x o) (inl (lost f told c c e r refl s x is))
-
--- rows
-pub retold : {A B : Type 0} {whole : Format A} {c d : Cursor} {part : Format B} {make : B → A} (other : B → A) → ((b : B) → make b ≡ other b) → Towards whole c part d make → Towards whole c part d other
-retold {whole = whole} {c = c} other e t = record {
-  same = t.same;
-  leads = record {
-    on = λ b to g. subst (λ a. Good whole c.image.now c.at a to) (e b) (t.leads.on b to g);
-    off = t.leads.off;
-  };
-}
-
-module _ {A B V : Type 0} {whole : Format A} {c d e : Cursor} (row : Option B → Format B) (last : Option B) (n m : ℕ) {make : List B → A} {told : List ℕ → V → B} {r : Result V Refusal} (less : n ≡ suc m) (t : Towards whole c (rows row last n) d make) (s : Reads (row last) told d r e) where
-  next : Towards whole c (rows row last (suc m)) d make
-  next = subst (λ k. Towards whole c (rows row last k) d make) less t
-
-  pub row_through : (v : V) → r ≡ Ok v → Towards whole c (rows row (Some (told c.image.now v)) m) e (λ x. make (told c.image.now v ∷ x))
-  row_through v is = record {
-    same = s.same ∙ t.same;
-    leads = row_passes c.image.now whole c.at row last m d.at make next.leads (told c.image.now v) e.at (got (row last) told c d e r t.same s v is);
-  }
-
-  pub row_stopped : {W : Type 0} (outs : List ℕ → W → A) {out : Result W Refusal} {x : Refusal} → r ≡ Err x → IsErrAnd out (λ y. y ≡ x) → Reads whole outs c out e
-  row_stopped outs {out} {x} is o = refuses whole outs c e out x (s.same ∙ t.same) (was out x o) (next.leads.off x (inl (lost (row last) told c d e r t.same s x is)))
-
-pub rows_done : {A B W : Type 0} {whole : Format A} {c d : Cursor} (row : Option B → Format B) (last : Option B) (n : ℕ) {make : List B → A} (outs : List ℕ → W → A) (w : W) → n ≡ 0 → Towards whole c (rows row last n) d make → make [] ≡ outs c.image.now w → Reads whole outs c (Ok w) d
-rows_done {whole = whole} {c = c} {d = d} row last n {make} outs w z t e = record {
-  same = t.same;
-  says = subst (λ a. Good whole c.image.now c.at a d.at) e
-      ((subst (λ k. Towards whole c (rows row last k) d make) z t).leads.on [] d.at (record { keeps = refl; stands = record { is = refl; ends = add-zero d.at } }));
-}
-
--- one row more in the table
-pub row_in : {X Y : Type 0} (f : X → Y) (xs : List X) (i : ℕ) (x : X) (rs : List Y) → i < length xs → map f (take i xs) ++ (f x ∷ rs) ≡ map f (take (i + 1) (set xs i x)) ++ rs
-row_in f xs i x rs h = sym (ap (λ l. map f l ++ rs) (take_more_set xs i x h) ∙ ap (λ l. l ++ rs) (map_push f (take i xs) x) ∙ append_assoc (map f (take i xs)) (f x ∷ []) rs)

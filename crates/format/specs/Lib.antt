@@ -3,3 +3,4 @@ pub mod Fields
 pub mod Sure
 pub mod Reads
 pub mod Encoded
+pub mod Calls

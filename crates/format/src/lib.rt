@@ -6,6 +6,7 @@ ghost use Rattle.format.specs.Sure.{FieldsSure};
 pub mod cursor;
 pub mod maps;
 pub mod numbers;
+pub mod rows;
 pub mod texts;
 
 // At every place of every image a field has one value or one fault at most.

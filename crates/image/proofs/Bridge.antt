@@ -1,5 +1,5 @@
 -- From what the check finds of the derived rows to what a register over them carries in its type.
-use Rattle.std.proofs.Common.{◌≡◌, ℕ, zero, suc, List, [], ◌∷◌, map, Some, None, Option, unwrap_or, sym, refl, ap, ◌∙◌, subst, inl, inr, arith}
+use Rattle.std.proofs.Common.{◌≡◌, ℕ, zero, suc, List, [], ◌∷◌, map, Some, None, Option, unwrap_or, sym, refl, ap, ◌∙◌, subst, inl, inr}
 use Rattle.std.specs.Option.{option_map, option_flatten}
 use Rattle.std.specs.List.{AllByRecursion, slice_get}
 use Rattle.std.proofs.lemmas.Option.{slice_get-map}
@@ -23,7 +23,7 @@ use Rattle.whole.specs.Derived.{Gives, SaysLong, SaysLetter, LongsListed, Letter
 -- places, by what stands there
 
 nth_stands : {A : Type 0} (P : A → Type 0) (xs : List A) (i : ℕ) (x : A) → slice_get xs i ≡ Some x → P x → Stands P xs i
-nth_stands P [] i x e p = let z : ◌≡◌ {A = ℕ} 0 1 = cc in absurd (omega arith)
+nth_stands P [] i x e p = cc
 nth_stands P (y ∷ xs) zero x e p = let h : x ≡ y = cc in subst P h p
 nth_stands P (y ∷ xs) (suc i) x e p = nth_stands P xs i x e p
 
@@ -33,7 +33,7 @@ stands_nth P (y ∷ xs) zero s = (y, refl, s)
 stands_nth P (y ∷ xs) (suc i) s = stands_nth P xs i s
 
 nth_among : {A : Type 0} (P : A → Type 0) (xs : List A) (i : ℕ) (x : A) → slice_get xs i ≡ Some x → P x → Among P xs
-nth_among P [] i x e p = let z : ◌≡◌ {A = ℕ} 0 1 = cc in absurd (omega arith)
+nth_among P [] i x e p = cc
 nth_among P (y ∷ xs) zero x e p = inl (let h : x ≡ y = cc in subst P h p)
 nth_among P (y ∷ xs) (suc i) x e p = inr (nth_among P xs i x e p)
 
@@ -52,11 +52,11 @@ module _ {X : Type 0} (name : Parameter → Option X) (said : List (List Paramet
       is recipes r p ∙ ap (λ o. option_flatten (option_map (λ ps. option_flatten (option_map name (slice_get ps p))) o)) a.1 ∙ ap (λ o. option_flatten (option_map name o)) b.1 ∙ b.2
 
   in_recipe : (ps : List Parameter) (p : ℕ) (x : X) (o : Option Parameter) → slice_get ps p ≡ o → option_flatten (option_map name o) ≡ Some x → Named name ps p x
-  in_recipe ps p x None e h = let z : ◌≡◌ {A = ℕ} 0 1 = cc in absurd (omega arith)
+  in_recipe ps p x None e h = cc
   in_recipe ps p x (Some q) e h = nth_stands (λ q. name q ≡ Some x) ps p q e h
 
   in_recipes : (recipes : List (List Parameter)) (r p : ℕ) (x : X) (o : Option (List Parameter)) → slice_get recipes r ≡ o → option_flatten (option_map (λ ps. option_flatten (option_map name (slice_get ps p))) o) ≡ Some x → Gives name recipes r p x
-  in_recipes recipes r p x None e h = let z : ◌≡◌ {A = ℕ} 0 1 = cc in absurd (omega arith)
+  in_recipes recipes r p x None e h = cc
   in_recipes recipes r p x (Some ps) e h = nth_stands (λ ps. Named name ps p x) recipes r ps e (in_recipe ps p x (slice_get ps p) refl h)
 
   pub said_gives : (recipes : List (List Parameter)) (r p : ℕ) (x : X) → said recipes r p ≡ Some x → Gives name recipes r p x

@@ -1,5 +1,5 @@
 -- What the steps of the check find, put together.
-use Rattle.std.proofs.Common.{◌≡◌, ℕ, ◌-◌, ◌≤◌, List, map, length, take, drop, sym, ap, ◌∙◌, subst, arith}
+use Rattle.std.proofs.Common.{◌≡◌, ℕ, ◌≤◌, List, map, length, take, drop, sym, ap, ◌∙◌, subst, arith}
 use Rattle.std.proofs.lemmas.List.{length-map, length-take-le}
 use Rattle.format.specs.Format.{Good}
 use Rattle.format.proofs.Whole.{encoded}
@@ -38,12 +38,8 @@ module _ {image : List ℕ} {t : Tree} {to : ℕ} (good : Good tree image 0 t to
 
 -- the modules were checked over the filled names
 module _ (image : List ℕ) (names : List NameRow) (n modules counted : ℕ) (is : counted ≡ modules) where
-  pub once_from : EachNamedOnce (map (name_at image) (take (n - 0) names)) modules → EachNamedOnce (map (name_at image) (take n names)) counted
-  once_from e =
-      let k : n - 0 ≡ n = omega arith in
-      subst (EachNamedOnce (map (name_at image) (take n names))) (sym is) (subst (λ j. EachNamedOnce (map (name_at image) (take j names)) modules) k e)
+  pub once_from : EachNamedOnce (map (name_at image) (take n names)) modules → EachNamedOnce (map (name_at image) (take n names)) counted
+  once_from = subst (EachNamedOnce (map (name_at image) (take n names))) (sym is)
 
-  pub not_once_from : {m : ℕ} → FirstNotOnce (map (name_at image) (take (n - 0) names)) modules m → FirstNotOnce (map (name_at image) (take n names)) counted m
-  not_once_from {m} e =
-      let k : n - 0 ≡ n = omega arith in
-      subst (λ c. FirstNotOnce (map (name_at image) (take n names)) c m) (sym is) (subst (λ j. FirstNotOnce (map (name_at image) (take j names)) modules m) k e)
+  pub not_once_from : {m : ℕ} → FirstNotOnce (map (name_at image) (take n names)) modules m → FirstNotOnce (map (name_at image) (take n names)) counted m
+  not_once_from {m} = subst (λ c. FirstNotOnce (map (name_at image) (take n names)) c m) (sym is)

@@ -3,3 +3,4 @@ pub mod Image
 pub mod Checks
 pub mod Loads
 pub mod Trees
+pub mod Texts

@@ -1,5 +1,7 @@
 -- Tables with all rows zero, and the tree that tables say. Assumes nothing.
 use Rattle.std.specs.Prelude.{ℕ, false, List, map, take, replicate, None}
+use Rattle.register.specs.declared.kind.Kind.TheVariants.{Module}
+use Rattle.register.specs.declared.parameter.ParameterKind.TheVariants.{Singular}
 use Rattle.text.specs.declared.span.Span.{Span}
 use Rattle.tree.specs.Tree.{Tree}
 use Rattle.tree.specs.Rows.{module_at, name_at, recipe_at, pattern_at}
@@ -20,10 +22,10 @@ abbrev pub no_module : ModuleRow
 no_module = record { default = None }
 
 abbrev pub no_name : NameRow
-no_name = record { «module» = 0; kind = 0; text = no_text; number = None }
+no_name = record { «module» = 0; kind = Module; text = no_text; number = None }
 
 abbrev pub no_parameter : ParameterRow
-no_parameter = record { default = None; flag = false; multiple = false; value = false; kind = None; long = None; letter = None; min = None; max = None; pattern = None }
+no_parameter = record { default = None; flag = false; multiple = false; value = false; kind = Singular; long = None; letter = None; min = None; max = None; pattern = None }
 
 abbrev pub no_recipe : RecipeRow
 no_recipe = record { count = 0; parameters = replicate 16 no_parameter }

@@ -9,6 +9,7 @@ use crate::tables::{Sizes, Tables};
 use format::cursor::Cursor;
 use records::whole::read_tree;
 use refusal::Refusal;
+use text::part::front;
 use whole::derive::derive_names;
 use whole::modules::check_modules;
 
@@ -34,7 +35,7 @@ fn fill(image: &[u8], tables: &mut Tables) -> Result<Sizes, Refusal>
     if at < image.len() {
         return Err(Refusal::BytesBehind { at });
     }
-    let recipes = counts.recipes as usize;
+    let recipes = usize::from(counts.recipes);
     let filled = derive_names(
         image,
         &tables.recipes,
@@ -42,15 +43,14 @@ fn fill(image: &[u8], tables: &mut Tables) -> Result<Sizes, Refusal>
         &mut tables.longs,
         &mut tables.letters,
     )?;
-    let names = counts.names as usize;
-    let modules = counts.modules as usize;
-    let all = &tables.names[..];
-    check_modules(&all[0..names], modules)?;
+    let modules = usize::from(counts.modules);
+    let names = usize::from(counts.names);
+    check_modules(front(&tables.names, names), modules)?;
     let sizes = Sizes {
         modules,
         names,
         recipes,
-        patterns: counts.patterns as usize,
+        patterns: usize::from(counts.patterns),
         longs: filled.longs,
         letters: filled.letters,
     };
@@ -63,13 +63,11 @@ pub fn check(image: &[u8], tables: &mut Tables) -> Result<Sizes, Refusal>
     ensures { Checks image.now result tables.new }
 {
     *tables = Tables::new();
-    match fill(image, tables) {
-        Ok(sizes) => Ok(sizes),
-        Err(refusal) => {
-            *tables = Tables::new();
-            Err(refusal)
-        }
+    let filled = fill(image, tables);
+    if filled.is_err() {
+        *tables = Tables::new();
     }
+    filled
 }
 
 // An image says one tree or gets one refusal, and never both.

@@ -16,6 +16,7 @@ pub struct Sizes {
 }
 
 // The rows of a tree, which only the tree check fills. Long and letter rows are derived from the recipe rows.
+// Kept: the tables are fixed memory with their sizes beside, since a controller has no heap and a refused image leaves all rows zero.
 #[derive(Drop)]
 pub struct Tables {
     pub(crate) sizes: Sizes,

@@ -22,11 +22,7 @@ pub fn read_image<'a>(
     ensures { AsJust image.now choice line.now (kept_orders book.new) result }
 {
     let loaded = load(image, tables);
-    match loaded.answer {
-        Ok(_) => {
-            let judge = chosen(loaded, choice);
-            read_line(&loaded.register, &judge, line, parser, book)
-        }
-        Err(refusal) => Err(refusal),
-    }
+    loaded.answer?;
+    let judge = chosen(loaded, choice);
+    read_line(&loaded.register, &judge, line, parser, book)
 }

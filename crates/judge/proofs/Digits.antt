@@ -1,10 +1,8 @@
 -- Digits, and the numbers that they write.
-use Rattle.std.proofs.Common.{◌≡◌, ℕ, zero, suc, ◌+◌, ◌-◌, ◌*◌, ◌^◌, ◌<◌, ◌≤◌, true, eqb, [], ◌∷◌, ◌++◌, length, get_or, take, fold, sym, refl, ap, ◌∙◌, inl, inr, one-add, arith, rules}
-use Rattle.std.proofs.lemmas.List.{append-nil, length-take-le, take_all}
+use Rattle.std.proofs.Common.{◌≡◌, ℕ, zero, suc, ◌+◌, ◌-◌, ◌*◌, ◌^◌, ◌<◌, ◌≤◌, true, [], ◌∷◌, ◌++◌, length, get_or, take, fold, refl, inl, inr, one-add, arith, rules}
+use Rattle.std.proofs.lemmas.List.{length-take-le}
 use Rattle.std.proofs.lemmas.Str.Parse.{IsNumeralModel, numerals_by_fold, tells_all_ascii_digits, digits_value_short, digit_at}
-use Rattle.std.proofs.lemmas.List.Sums.{fold_more}
 use Rattle.std.proofs.lemmas.Bool.{and_parts, and_from, cases_Bool}
-use Rattle.std.proofs.lemmas.Bool.Decides.{same_from_decides, Decides-eqb}
 use Rattle.std.specs.Char.{is_ascii_digit}
 use Rattle.std.specs.Int.{IsInRange}
 use Rattle.std.specs.Str.{all_ascii_digits}
@@ -34,9 +32,6 @@ module _ (digits : Text) (i : ℕ) (written : all_ascii_digits digits ≡ true) 
   pub digit_here : IsInRange 48 57 (get_or digits i 0)
   digit_here = digit_at digits i (own.to digits written) here
 
-  pub decimal_more : decimal (take (i + 1) digits) ≡ decimal (take i digits) * 10 + (get_or digits i 0 - 48)
-  decimal_more = fold_more (λ number digit. number * 10 + (digit - 48)) 0 digits i 0 here
-
 -- the digits that a text starts with
 pub leading_written : (text : Text) → all_ascii_digits (take (leading_digits text) text) ≡ true
 leading_written [] = refl
@@ -47,11 +42,3 @@ pub leading_append : (digits rest : Text) → all_ascii_digits digits ≡ true �
 leading_append [] rest e = omega arith
 leading_append (d ∷ more) rest e =
     let p = and_parts (is_ascii_digit d) (all_ascii_digits more) e in rw p.0 (omega (arith, leading_append more rest p.1))
-
-pub leading_all : (text : Text) → leading_digits text ≡ length text → all_ascii_digits text ≡ true
-leading_all text e = ap all_ascii_digits (sym (take_all (leading_digits text) text (omega arith))) ∙ leading_written text
-
-pub all_decides : (text : Text) → eqb (leading_digits text) (length text) ≡ all_ascii_digits text
-all_decides text =
-    same_from_decides _ _ (Decides-eqb (leading_digits text) (length text))
-    (λ e. let h = leading_append text [] e in let n = ap leading_digits (append-nil text) in omega arith, leading_all text)

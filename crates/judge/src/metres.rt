@@ -9,12 +9,7 @@ fn digit_count(text: &[u8]) -> usize
     ensures value { result ≡ leading_digits text.now }
     ensures within { result ≤ length text.now }
 {
-    for (i, b) in text.iter().enumerate() {
-        if !b.is_ascii_digit() {
-            return i;
-        }
-    }
-    text.len()
+    text.iter().take_while(|b| b.is_ascii_digit()).count()
 }
 
 // The number that a few digits write.
@@ -24,11 +19,9 @@ fn number_of(digits: &[u8]) -> u32
     ensures value { result ≡ decimal digits.now }
     ensures small { result < 10 ^ 4 }
 {
-    let mut number = 0;
-    for digit in digits {
-        number = number * 10 + (*digit - b'0') as u32;
-    }
-    number
+    digits
+        .iter()
+        .fold(0, |number, digit| number * 10 + (*digit - b'0') as u32)
 }
 
 // Whether digits can stand before the point: no zero leads but one that stands alone.
@@ -36,9 +29,9 @@ fn is_whole(digits: &[u8]) -> bool
     ensures { result ≡ is_whole digits.now }
 {
     match digits {
-        [] => false,
         [_] => true,
-        [first, ..] => *first != b'0' && digits.len() <= 4,
+        [] | [b'0', ..] => false,
+        _ => digits.len() <= 4,
     }
 }
 
@@ -46,8 +39,7 @@ fn is_whole(digits: &[u8]) -> bool
 fn is_fraction(text: &[u8]) -> bool
     ensures { result ≡ is_fraction text.now }
 {
-    let len = text.len();
-    1 <= len && len <= 3 && digit_count(text) == len
+    (1..=3).contains(&text.len()) && text.iter().all(|b| b.is_ascii_digit())
 }
 
 // What digits behind the point count, in millimetres.
@@ -71,13 +63,10 @@ fn with_fraction(metres: u32, rest: &[u8]) -> Option<u32>
 {
     match rest {
         [] => Some(metres * 1000),
-        [point, fraction @ ..] => {
-            if *point == b'.' && is_fraction(fraction) {
-                Some(metres * 1000 + thousandths_of(fraction))
-            } else {
-                None
-            }
-        }
+        [b'.', fraction @ ..] if is_fraction(fraction) => Some(
+            metres * 1000 + thousandths_of(fraction),
+        ),
+        _ => None,
     }
 }
 
@@ -85,10 +74,9 @@ fn with_fraction(metres: u32, rest: &[u8]) -> Option<u32>
 pub fn millimetres_of(text: &[u8]) -> Option<u32>
     ensures { result ≡ reading_of text.now }
 {
-    let count = digit_count(text);
-    let digits = &text[0..count];
+    let (digits, rest) = text.split_at(digit_count(text));
     if is_whole(digits) {
-        with_fraction(number_of(digits), &text[count..])
+        with_fraction(number_of(digits), rest)
     } else {
         None
     }

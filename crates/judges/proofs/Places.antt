@@ -1,8 +1,9 @@
 -- Patterns by their number, over rows.
-use Rattle.std.proofs.Common.{◌≡◌, ℕ, zero, suc, ◌<◌, ◌≤◌, List, [], ◌∷◌, map, length, get_or, take, Some, None, sym, refl, ap, ◌∙◌, arith}
+use Rattle.std.proofs.Common.{◌≡◌, ℕ, zero, suc, List, [], ◌∷◌, map, take, Some, None, Option, sym, refl, ap, ◌∙◌}
 use Rattle.std.specs.List.{slice_get}
-use Rattle.std.proofs.lemmas.List.{length-map, get_or-map, take-map}
-use Rattle.std.proofs.lemmas.Option.{slice_get-get_or, slice_get_past}
+use Rattle.std.specs.Option.{option_map, unwrap_or}
+use Rattle.std.proofs.lemmas.List.{take-map}
+use Rattle.std.proofs.lemmas.Option.{slice_get-map}
 use Rattle.text.specs.Identifier.{Text}
 use Rattle.text.specs.Spans.{text_at, texts_at}
 use Rattle.text.specs.declared.span.Span.{Span}
@@ -11,26 +12,20 @@ use Rattle.tree.specs.declared.rows.PatternRow.{PatternRow}
 use Rattle.judge.specs.Listed.{listed}
 use Rattle.judges.specs.Patterns.{by_texts, texts_of, pattern_texts, pattern_gauges, texts_over, gauges_over, JudgesOfTree}
 
--- the pattern of a number, over rows
-module _ (image : List ℕ) (rows : List PatternRow) (i : ℕ) where
-  pub at_row : (d : PatternRow) → i < length rows → slice_get (map (pattern_at image) rows) i ≡ Some (pattern_at image (get_or rows i d))
-  at_row d h =
-      let n : i < length (map (pattern_at image) rows) = omega (arith, length-map rows (pattern_at image)) in
-      slice_get-get_or (map (pattern_at image) rows) i (pattern_at image d) n ∙ ap (λ p. Some p) (get_or-map (pattern_at image) rows i d (pattern_at image d) h)
-
-  pub past_rows : length rows ≤ i → slice_get (map (pattern_at image) rows) i ≡ None
-  past_rows h = slice_get_past (map (pattern_at image) rows) i (omega (arith, length-map rows (pattern_at image)))
-
 -- the listed texts of a row
 listed_at_lem : (image : List ℕ) (count : ℕ) (spans : List Span) (text : Text) → by_texts (listed_at image count (texts_at image spans)) text ≡ listed (texts_at image (take count spans)) text
 listed_at_lem image zero spans text = refl
 listed_at_lem image (suc n) spans text = ap (λ texts. listed texts text) (take-map (text_at image) (suc n) spans)
 
-pub texts_at_row : (image : List ℕ) (rows : List PatternRow) (i : ℕ) (text : Text) (d : PatternRow) → i < length rows →
-    listed (texts_at image (take (get_or rows i d).count (get_or rows i d).texts)) text ≡ texts_over image rows i text
-texts_at_row image rows i text d h =
-    let row = get_or rows i d in
-    sym (ap (λ o. by_texts (texts_of o) text) (at_row image rows i d h) ∙ listed_at_lem image row.count row.texts text)
+-- the listed texts of the row of a number, as it was found
+pub texts_at_row : {X : Type 0} (row : X → PatternRow) (image : List ℕ) (rows : List PatternRow) (number : ℕ) (text : Text) (found : Option X) → option_map row found ≡ slice_get rows number →
+    listed (texts_at image (unwrap_or (option_map (λ x. take (row x).count (row x).texts) found) [])) text ≡ texts_over image rows number text
+texts_at_row {X} row image rows number text found e =
+    at found ∙ ap (λ pattern. by_texts (texts_of pattern) text) (ap (option_map (pattern_at image)) e ∙ sym (slice_get-map (pattern_at image) rows number))
+  where
+    at : (o : Option X) → listed (texts_at image (unwrap_or (option_map (λ x. take (row x).count (row x).texts) o) [])) text ≡ by_texts (texts_of (option_map (pattern_at image) (option_map row o))) text
+    at None = refl
+    at (Some x) = sym (listed_at_lem image (row x).count (row x).texts text)
 
 any_bytes : (image : List ℕ) (rows : List PatternRow) (number : ℕ) (text : Text) → gauges_over rows number text ≡ pattern_gauges (map (pattern_at image) rows) number text
 any_bytes image [] number text = refl

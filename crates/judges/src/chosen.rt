@@ -6,6 +6,7 @@ use crate::texts::TextsJudge;
 use judge::Judge;
 use judge::either::Either;
 
+// Kept: an enum, since a function may not make a judge of `dyn` type and hand it out, and the three are all there are.
 #[derive(Clone, Copy)]
 pub enum Chosen<'a> {
     Texts(TextsJudge<'a>),

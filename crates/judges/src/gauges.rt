@@ -18,21 +18,15 @@ pub struct GaugeJudge<'a> {
 fn gauge_of(patterns: &[PatternRow], pattern: u8) -> Option<Gauge>
     ensures { option_map range_at result ≡ range_of (slice_get (map (pattern_at []) patterns.now) pattern) }
 {
-    let place = pattern as usize;
-    if place < patterns.len() {
-        patterns[place].gauge
-    } else {
-        None
-    }
+    patterns.get(pattern as usize)?.gauge
 }
 
 impl<'a> Judge for GaugeJudge<'a> {
     ghost accepts = { λ j. gauges_over j.patterns.now };
 
     fn belongs(&self, pattern: u8, text: &[u8]) -> bool {
-        match gauge_of(self.patterns, pattern) {
-            Some(gauge) => is_on_gauge(gauge.low, gauge.high, text),
-            None => false,
-        }
+        gauge_of(self.patterns, pattern).is_some_and(|gauge| is_on_gauge(
+            gauge.low, gauge.high, text,
+        ))
     }
 }

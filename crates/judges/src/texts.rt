@@ -5,6 +5,7 @@ ghost use Rattle.judges.specs.Patterns.{texts_over};
 
 use judge::Judge;
 use judge::listed::is_listed;
+use text::part::front;
 use text::span::Span;
 use tree::rows::PatternRow;
 
@@ -19,21 +20,17 @@ pub struct TextsJudge<'a> {
 fn row_spans(row: &PatternRow) -> &[Span]
     ensures { result.now ≡ take row.now.count row.now.texts }
 {
-    let count = if row.count < 16 { row.count } else { 16 };
-    let all = &row.texts[..];
-    &all[0..count]
+    front(&row.texts, row.count)
 }
 
 // The spans of a pattern: none without such a pattern, or without that field.
 fn spans_of(patterns: &[PatternRow], pattern: u8) -> &[Span]
     ensures { (image text : List ℕ) → listed (texts_at image result.now) text ≡ texts_over image patterns.now pattern text }
 {
-    let place = pattern as usize;
-    if place < patterns.len() {
-        row_spans(&patterns[place])
-    } else {
-        &[]
-    }
+    patterns
+        .get(pattern as usize)
+        .map(row_spans)
+        .unwrap_or_default()
 }
 
 impl<'a> Judge for TextsJudge<'a> {

@@ -1,5 +1,5 @@
 -- The recipe of a path, by just and by the walk along names.
-use Rattle.std.proofs.Common.{◌≡◌, ℕ, zero, suc, ◌+◌, ◌<◌, Bool, true, false, cond, not, ◌&&◌, ltb, List, [], ◌∷◌, ◌++◌, length, Some, None, Ok, Err, Option, Result, sym, refl, ap, ◌∙◌, subst, zero-add, arith}
+use Rattle.std.proofs.Common.{Break, ◌≡◌, ℕ, zero, suc, ◌+◌, ◌<◌, Bool, true, false, cond, not, ◌&&◌, ltb, List, [], ◌∷◌, ◌++◌, length, Some, None, Ok, Err, Option, Result, sym, refl, ap, ◌∙◌, subst, zero-add, arith}
 use Rattle.std.specs.Option.{option_map}
 use Rattle.std.specs.List.{slice_get}
 use Rattle.std.proofs.lemmas.Bool.{lt-ltb, le-ltb}
@@ -14,7 +14,6 @@ use Rattle.tree_register.specs.Signatures.{tree_signatures}
 use Rattle.path.specs.Path as paths
 use Rattle.path.specs.Path.{words_of, word_behind, followed_by}
 use Rattle.path.specs.declared.path.Path.{Path}
-use Rattle.path.specs.declared.step.Step.TheVariants.{Take}
 use Rattle.path.proofs.Model.{or_else, step_of, home, home_by, after, walk, whole}
 use Rattle.reading.specs.Signature.{required_count}
 use Rattle.just.specs.Error.{Error}
@@ -116,7 +115,7 @@ module _ (t : Tree) (good : Good t) (next : ℕ) (mp : Bool) where
     abbrev current : Justfile
     current = justfile_of t m row
 
-    takes : (n : ℕ) → Walks (after (cond followed (Err (refusal.ExpectedSubmoduleButFoundRecipe word)) (Ok (Take n))) (words_of (path_of xs) (i + 1)) onward)
+    takes : (n : ℕ) → Walks (after (cond followed (Err (refusal.ExpectedSubmoduleButFoundRecipe word)) (Ok (Break n))) (words_of (path_of xs) (i + 1)) onward)
         (cond (mp && ltb (suc i) count) (Err (ExpectedSubmoduleButFoundRecipe (on_path next mp i) (str.join (58 ∷ 58 ∷ []) path))) (Ok (record { recipe = recipe_at t n; consumed = suc i })))
     takes n =
         rw (followed_is xs arg args i count counted)
@@ -137,8 +136,8 @@ module _ (t : Tree) (good : Good t) (next : ℕ) (mp : Bool) where
         rw (no-module, no-alias, number_is t m kinds.Recipe arg (recipe_at t) good.numbered refl, number_is t m kinds.RecipeAlias arg (recipe_at t) good.numbered refl, label_is t m kinds.DisabledRecipe arg refl, label_is t m kinds.DisabledAlias arg refl, label_is t m kinds.AbsentModule arg refl)
         (by_recipe ((tree_names t).find m kinds.Recipe arg) ((tree_names t).find m kinds.RecipeAlias arg) ((tree_names t).find m kinds.DisabledRecipe arg) ((tree_names t).find m kinds.DisabledAlias arg) ((tree_names t).find m kinds.AbsentModule arg))
       where
-        by_recipe : (a b c d e : Option ℕ) → Walks (after (or_else a (λ n. cond followed (Err (refusal.ExpectedSubmoduleButFoundRecipe word)) (Ok (Take n)))
-            (or_else b (λ n. cond followed (Err (refusal.ExpectedSubmoduleButFoundRecipe word)) (Ok (Take n)))
+        by_recipe : (a b c d e : Option ℕ) → Walks (after (or_else a (λ n. cond followed (Err (refusal.ExpectedSubmoduleButFoundRecipe word)) (Ok (Break n)))
+            (or_else b (λ n. cond followed (Err (refusal.ExpectedSubmoduleButFoundRecipe word)) (Ok (Break n)))
             (or_else c (λ l. Err (refusal.RecipeDisabled word l))
             (or_else d (λ l. Err (refusal.AliasDisabled word l))
             (or_else e (λ l. Err (refusal.ModuleAbsent word l))

@@ -1,5 +1,5 @@
 -- The first word decides how a path is read.
-use Rattle.std.proofs.Common.{◌≡◌, ℕ, ◌<◌, true, false, List, [], ◌∷◌, length, get_or, Result, sym, refl, ap, ◌∙◌, subst, arith}
+use Rattle.std.proofs.Common.{◌≡◌, ℕ, true, false, List, [], ◌∷◌, length, Result, sym, refl, ap, ◌∙◌, subst, arith}
 use Rattle.refusal.specs.declared.Refusal.{Refusal}
 use Rattle.text.specs.Identifier.{Text}
 use Rattle.text.specs.Pieces.{has_colon, Unclosed}
@@ -15,20 +15,20 @@ module _ (bytes : List ℕ) where
   no_first [] h = Gives.no_words
   no_first (w ∷ ws) h = absurd (omega arith)
 
-  pub plain_first : (words : List Span) (d : Span) (word : Text) → 0 < length words → word ≡ text_at bytes (get_or words 0 d) → has_colon word ≡ false → Gives (texts_at bytes words) (of_words (texts_at bytes words))
-  plain_first [] d word some is c = absurd (omega arith)
-  plain_first (w ∷ ws) d word some is c = Gives.each_word (ap has_colon (sym is) ∙ c)
+  pub plain_first : (words rest : List Span) (first : Span) (word : Text) → words ≡ first ∷ rest → word ≡ text_at bytes first → has_colon word ≡ false → Gives (texts_at bytes words) (of_words (texts_at bytes words))
+  plain_first words rest first word e is c = subst (λ ws. Gives (texts_at bytes ws) (of_words (texts_at bytes ws))) (sym e) (Gives.each_word (ap has_colon (sym is) ∙ c))
 
-  module _ (names : NameMeaning) (answer : Result Path Refusal) (d : Span) (word text : Text) (colon : has_colon word ≡ true) (told : TextAnswer names text answer) where
-    -- the first word is the line's last
-    pub only_first : (words : List Span) → length words ≡ 1 → word ≡ text_at bytes (get_or words 0 d) → Unclosed word text → PathAnswer names (texts_at bytes words) answer
-    only_first [] one is u = absurd (omega arith)
-    only_first (w ∷ []) one is u = told (text_at bytes w) [] (ap has_colon (sym is) ∙ colon) (Meant.last (subst (λ t. Unclosed t text) is u))
-    only_first (w ∷ v ∷ ws) one is u = absurd (omega arith)
+  -- the first word has a colon
+  pub colon_first : (names : NameMeaning) (answer : Result Path Refusal) (words rest : List Span) (first : Span) (word text : Text) → words ≡ first ∷ rest → word ≡ text_at bytes first → has_colon word ≡ true → Meant word (texts_at bytes rest) text → TextAnswer names text answer → PathAnswer names (texts_at bytes words) answer
+  colon_first names answer words rest first word text e is c m told =
+      subst (λ ws. PathAnswer names (texts_at bytes ws) answer) (sym e)
+      (told (text_at bytes first) (texts_at bytes rest) (ap has_colon (sym is) ∙ c) (subst (λ w. Meant w (texts_at bytes rest) text) is m))
 
-    -- more words follow
-    pub front_first : (words : List Span) → 0 < length words → (length words ≡ 1 → ⊥) → word ≡ text_at bytes (get_or words 0 d) → word ≡ text → PathAnswer names (texts_at bytes words) answer
-    front_first [] some more is same = absurd (omega arith)
-    front_first (w ∷ []) some more is same = absurd (more refl)
-    front_first (w ∷ v ∷ ws) some more is same =
-        told (text_at bytes w) (texts_at bytes (v ∷ ws)) (ap has_colon (sym is) ∙ colon) (subst (Meant (text_at bytes w) (texts_at bytes (v ∷ ws))) (sym is ∙ same) Meant.not_last)
+  -- what a word is taken for where no words follow, and where some do
+  pub meant_last : (rest : List Span) {word text : Text} → length rest ≡ 0 → Unclosed word text → Meant word (texts_at bytes rest) text
+  meant_last [] h u = Meant.last u
+  meant_last (w ∷ ws) h u = absurd (omega arith)
+
+  pub meant_mid : (rest : List Span) {word : Text} → (length rest ≡ 0 → ⊥) → Meant word (texts_at bytes rest) word
+  meant_mid [] h = absurd (h refl)
+  meant_mid (w ∷ ws) h = Meant.not_last

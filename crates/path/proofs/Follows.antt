@@ -1,5 +1,5 @@
 -- What follows from the rules of paths.
-use Rattle.std.proofs.Common.{◌≡◌, ℕ, ◌+◌, ◌<◌, ◌≤◌, Bool, true, false, List, [], ◌∷◌, length, is_ok, IfOk, Some, None, Ok, Err, Option, Result, sym, refl, ap, ◌∙◌, subst, arith}
+use Rattle.std.proofs.Common.{◌≡◌, ℕ, ◌+◌, ◌<◌, ◌≤◌, Bool, true, false, List, [], ◌∷◌, length, is_ok, IfOk, Some, None, Ok, Err, Continue, Break, ControlFlow, Option, Result, sym, refl, ap, ◌∙◌, subst, arith}
 use Rattle.std.proofs.lemmas.List.{length-append, length-map}
 use Rattle.std.proofs.lemmas.Bool.{and_parts, true≢false, false≢true}
 use Rattle.refusal.specs.declared.Refusal.{Refusal}
@@ -11,15 +11,13 @@ use Rattle.text.specs.declared.span.Span.{Span}
 use Rattle.text.proofs.Joins.{pieces_is, identifier_bare}
 use Rattle.register.specs.Meaning.{NameMeaning}
 use Rattle.path.specs.declared.path.Path.{Path}
-use Rattle.path.specs.declared.step.Step.{Step}
-use Rattle.path.specs.declared.step.Step.TheVariants.{Enter, Take}
 use Rattle.path.specs.Path.{Modulepath, words_of, followed_by, Leads, Lacks, Stops, Reaches, Resolves, Strays, Meant, Gives, LawfulPath, PathFault, PathAnswer}
 use Rattle.path.specs.Laws.{Takes, Empty, PathLaws}
 use Rattle.path.specs.Steps.{StepsTo, of_words, of_pieces}
 use Rattle.path.proofs.Model.{step_of, home_by, after, walk}
 use Rattle.path.proofs.Names.{module_is, recipe_is, step_does}
 use Rattle.path.proofs.Walks.{resolves_is}
-use Rattle.path.proofs.Words.{alone}
+use Rattle.path.proofs.Along.{alone}
 use Rattle.path.proofs.Theorem.{meant_is}
 
 -- how many names a path uses
@@ -85,10 +83,10 @@ module _ (names : NameMeaning) (one each : Path) where
 
   module _ (pieces words : List Text) where
     -- one name, and what the rest of the walk gives
-    name_alike : (name : Text) (rest : List Text) (at used count : ℕ) (s : Result Step Refusal) → StepsTo names at name (followed_by (of_pieces pieces) rest) 0 s → after s 1 (λ m. walk names (of_pieces pieces) m (used + 1) rest) ≡ Ok one → walk names (of_words words) at count (name ∷ rest) ≡ Ok each →
+    name_alike : (name : Text) (rest : List Text) (at used count : ℕ) (s : Result (ControlFlow ℕ ℕ) Refusal) → StepsTo names at name (followed_by (of_pieces pieces) rest) 0 s → after s 1 (λ m. walk names (of_pieces pieces) m (used + 1) rest) ≡ Ok one → walk names (of_words words) at count (name ∷ rest) ≡ Ok each →
         ((m : ℕ) → walk names (of_pieces pieces) m (used + 1) rest ≡ Ok one → walk names (of_words words) m (count + 1) rest ≡ Ok each → Alike one each) → Alike one each
-    name_alike name rest at used count (Ok (Enter m)) why e k go = go m e (rw (module_is names at name (followed_by (of_words words) rest) count why) at k)
-    name_alike name rest at used count (Ok (Take n)) why e k go =
+    name_alike name rest at used count (Ok (Continue m)) why e k go = go m e (rw (module_is names at name (followed_by (of_words words) rest) count why) at k)
+    name_alike name rest at used count (Ok (Break n)) why e k go =
         alike_from (record { recipe = n; words = 1; default = false }) (record { recipe = n; words = count + 1; default = false }) e
         (rw (recipe_is names at name (followed_by (of_words words) rest) count (alone words rest) why.1) at k) (refl, refl)
     name_alike name rest at used count (Err x) why e k go = absurd (false≢true (ap is_ok e))

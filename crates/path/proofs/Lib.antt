@@ -4,7 +4,9 @@ pub mod Names
 pub mod Walks
 pub mod Theorem
 pub mod LookUps
-pub mod Words
-pub mod Pieces
+pub mod Places
+pub mod Along
+pub mod PieceSteps
+pub mod WordSteps
 pub mod Firsts
 pub mod Follows

@@ -1,5 +1,5 @@
 -- The walk along a path as functions: a tool of the proofs that every path has one answer.
-use Rattle.std.proofs.Common.{ℕ, ◌+◌, Bool, true, false, cond, List, [], ◌∷◌, Some, None, Ok, Err, Option, Result}
+use Rattle.std.proofs.Common.{ℕ, ◌+◌, Bool, true, false, cond, List, [], ◌∷◌, Some, None, Ok, Err, Continue, Break, ControlFlow, Option, Result}
 use Rattle.refusal.specs.declared.Refusal.{Refusal}
 use Rattle.refusal.specs.declared.Refusal.TheVariants.{UnknownRecipe, UnknownSubmodule, ExpectedSubmoduleButFoundRecipe, RecipeDisabled, AliasDisabled, ModuleAbsent, NoRecipes, NoDefaultRecipe}
 use Rattle.text.specs.Identifier.{Text}
@@ -7,8 +7,6 @@ use Rattle.text.specs.Pieces.{has_colon, split, well_formed, unclosed}
 use Rattle.register.specs.Meaning.{NameMeaning}
 use Rattle.register.specs.declared.kind.Kind.TheVariants.{Module, ModuleAlias, Recipe, RecipeAlias, DisabledRecipe, DisabledAlias, AbsentModule}
 use Rattle.path.specs.declared.path.Path.{Path}
-use Rattle.path.specs.declared.step.Step.{Step}
-use Rattle.path.specs.declared.step.Step.TheVariants.{Enter, Take}
 use Rattle.path.specs.Path.{Modulepath, words_of, word_behind, followed_by}
 use Rattle.path.specs.Steps.{of_words, of_pieces}
 
@@ -17,12 +15,12 @@ or_else None f rest = rest
 or_else (Some n) f rest = f n
 
 -- where a name leads, by kinds in sequence
-abbrev pub step_of : NameMeaning → ℕ → Text → Bool → ℕ → Result Step Refusal
+abbrev pub step_of : NameMeaning → ℕ → Text → Bool → ℕ → Result (ControlFlow ℕ ℕ) Refusal
 step_of names at name followed word =
-    or_else (names.find at Module name) (λ m. Ok (Enter m))
-    (or_else (names.find at ModuleAlias name) (λ m. Ok (Enter m))
-    (or_else (names.find at Recipe name) (λ n. cond followed (Err (ExpectedSubmoduleButFoundRecipe word)) (Ok (Take n)))
-    (or_else (names.find at RecipeAlias name) (λ n. cond followed (Err (ExpectedSubmoduleButFoundRecipe word)) (Ok (Take n)))
+    or_else (names.find at Module name) (λ m. Ok (Continue m))
+    (or_else (names.find at ModuleAlias name) (λ m. Ok (Continue m))
+    (or_else (names.find at Recipe name) (λ n. cond followed (Err (ExpectedSubmoduleButFoundRecipe word)) (Ok (Break n)))
+    (or_else (names.find at RecipeAlias name) (λ n. cond followed (Err (ExpectedSubmoduleButFoundRecipe word)) (Ok (Break n)))
     (or_else (names.find at DisabledRecipe name) (λ l. Err (RecipeDisabled word l))
     (or_else (names.find at DisabledAlias name) (λ l. Err (AliasDisabled word l))
     (or_else (names.find at AbsentModule name) (λ l. Err (ModuleAbsent word l))
@@ -36,9 +34,9 @@ home_by None any words = Err (cond any (NoDefaultRecipe 0) (NoRecipes 0))
 abbrev pub home : NameMeaning → ℕ → ℕ → Result Path Refusal
 home names at words = home_by (names.default at) (names.has_recipes at) words
 
-abbrev pub after : Result Step Refusal → ℕ → (ℕ → Result Path Refusal) → Result Path Refusal
-after (Ok (Enter m)) words go = go m
-after (Ok (Take n)) words go = Ok (record { recipe = n; words = words; default = false })
+abbrev pub after : Result (ControlFlow ℕ ℕ) Refusal → ℕ → (ℕ → Result Path Refusal) → Result Path Refusal
+after (Ok (Continue m)) words go = go m
+after (Ok (Break n)) words go = Ok (record { recipe = n; words = words; default = false })
 after (Err refusal) words go = Err refusal
 
 -- the walk from a module on along the names that are left, `used` names behind the first

@@ -9,7 +9,7 @@ abbrev pub kinds : List Kind
 kinds = Module ∷ ModuleAlias ∷ Recipe ∷ RecipeAlias ∷ DisabledRecipe ∷ DisabledAlias ∷ AbsentModule ∷ []
 
 -- a kind stands at the place of its number
-kind_at : (k d : Kind) → get_or kinds (kind_number k) d ≡ k
+pub kind_at : (k d : Kind) → get_or kinds (kind_number k) d ≡ k
 kind_at Module d = refl
 kind_at ModuleAlias d = refl
 kind_at Recipe d = refl

@@ -1,12 +1,10 @@
 -- The walk along names: the rules and the function agree.
-use Rattle.std.proofs.Common.{◌≡◌, ℕ, suc, ◌+◌, Bool, true, false, List, [], ◌∷◌, ◌++◌, length, Some, None, Ok, Err, Option, Result, sym, refl, ap, ◌∙◌, subst, add-zero, zero-add, arith}
+use Rattle.std.proofs.Common.{◌≡◌, ℕ, suc, ◌+◌, Bool, true, false, List, [], ◌∷◌, ◌++◌, length, Some, None, Ok, Err, Continue, Break, ControlFlow, Option, Result, sym, refl, ap, ◌∙◌, subst, add-zero, zero-add, arith}
 use Rattle.std.proofs.lemmas.List.{append-nil, append_assoc, length_push}
 use Rattle.refusal.specs.declared.Refusal.{Refusal}
 use Rattle.text.specs.Identifier.{Text}
 use Rattle.register.specs.Meaning.{NameMeaning}
 use Rattle.path.specs.declared.path.Path.{Path}
-use Rattle.path.specs.declared.step.Step.{Step}
-use Rattle.path.specs.declared.step.Step.TheVariants.{Enter, Take}
 use Rattle.path.specs.Path.{ToModule, Modulepath, words_of, word_behind, followed_by, Leads, Lacks, Reaches, EndsAt, Resolves, Strays}
 use Rattle.path.specs.Steps.{StepsTo, ResolvesTo}
 use Rattle.path.proofs.Model.{step_of, home_by, home, after, walk, whole}
@@ -58,11 +56,11 @@ module _ (names : NameMeaning) (path : Modulepath) where
       go None d false a = Strays.at_end l (Lacks.recipes d a)
 
   -- what a reached name does
-  name_does : (front rest : List Text) (at : ℕ) (name : Text) → Reaches names path front at name rest → (s : Result Step Refusal) → StepsTo names at name (followed_by path rest) (word_behind path (length front)) s →
+  name_does : (front rest : List Text) (at : ℕ) (name : Text) → Reaches names path front at name rest → (s : Result (ControlFlow ℕ ℕ) Refusal) → StepsTo names at name (followed_by path rest) (word_behind path (length front)) s →
       ((next : ℕ) → ToModule names at name next → ResolvesTo names path (walk names path next (length front + 1) rest)) →
       ResolvesTo names path (after s (words_of path (length front + 1)) (λ next. walk names path next (length front + 1) rest))
-  name_does front rest at name h (Ok (Enter next)) why go = go next why
-  name_does front rest at name h (Ok (Take n)) why go = Resolves.at_recipe h why.0 why.1
+  name_does front rest at name h (Ok (Continue next)) why go = go next why
+  name_does front rest at name h (Ok (Break n)) why go = Resolves.at_recipe h why.0 why.1
   name_does front rest at name h (Err refusal) why go = Strays.at_name h why
 
   walk_from : (front rest : List Text) (at : ℕ) → path.components ≡ front ++ rest → Leads names names.root front at → ResolvesTo names path (walk names path at (length front) rest)

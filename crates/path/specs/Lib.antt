@@ -1,3 +1,4 @@
 pub mod Path
 pub mod Laws
 pub mod Steps
+pub mod Names

@@ -5,8 +5,9 @@ ghost use Rattle.path.specs.Laws.{PathLaws};
 ghost use Rattle.path.specs.Path.{PathsStand};
 
 pub mod found;
+mod name;
 pub mod path;
-pub mod step;
+mod pieces;
 pub mod walk;
 
 // Words from an order's first on have one path or one first fault.

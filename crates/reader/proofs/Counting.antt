@@ -1,10 +1,8 @@
 -- Steps of the counts of an order. Assumes nothing.
-use Rattle.std.proofs.Common.{◌≡◌, ℕ, suc, ◌+◌, ◌<◌, Bool, true, false, cond, not, ◌&&◌, ◌||◌, eqb, List, [], ◌∷◌, map, length, get_or, drop, Some, None, Option, sym, refl, ap, ◌∙◌, add-one}
-use Rattle.std.proofs.lemmas.List.{at_drop_more}
-use Rattle.std.proofs.lemmas.Bool.{eq-eqb, ne_eqb, cond-true, cond-false, and_left, and_right, and_from}
+use Rattle.std.proofs.Common.{◌≡◌, ℕ, suc, Bool, true, false, cond, not, ◌&&◌, ◌||◌, eqb, List, [], ◌∷◌, map, length, Some, None, Option, sym, refl, ap, ◌∙◌, arith}
+use Rattle.std.proofs.lemmas.Bool.{cond-true, cond-false}
 use Rattle.refusal.specs.declared.Refusal.{Refusal}
 use Rattle.refusal.specs.declared.Refusal.TheVariants.{ArgumentPatternMismatch, MissingOption, ArgumentTooFewValues, ArgumentTooManyValues}
-use Rattle.text.specs.Identifier.{Text}
 use Rattle.register.specs.Meaning.{ParameterMeaning}
 use Rattle.register.specs.Parameters.{without_texts}
 use Rattle.register.specs.declared.parameter.Parameter.{Parameter}
@@ -17,15 +15,14 @@ use Rattle.reader.specs.Meaning.{source_text, value_of, any_to}
 use Rattle.reader.specs.Counts.{count_to, first_rejected, missing_row}
 use Rattle.reader.specs.declared.source.ValueRow.{ValueRow}
 use Rattle.reader.proofs.Applies.{any_filled}
-use Rattle.reader.proofs.Places.{There}
+use Rattle.reader.specs.Signatures.{called_from}
+use Rattle.reader.specs.declared.called.Called as code
+use Rattle.reader.proofs.Places.{Ahead}
+use Rattle.std.specs.List.{list_any, find}
+use Rattle.std.specs.Option.{option_map}
+use Rattle.std.proofs.lemmas.Iterator.Adapters.{option_map_id}
 
 -- Rows.
-
-pub count_hit : (k : ℕ) (rows : List ValueRow) (i : ℕ) (d : ValueRow) → i < length rows → (get_or rows i d).parameter ≡ k → count_to k (drop i rows) ≡ suc (count_to k (drop (i + 1) rows))
-count_hit k rows i d h e = at_drop_more (count_to k) rows i d h ∙ cond-true _ _ _ (eq-eqb _ _ (sym e))
-
-pub count_miss : (k : ℕ) (rows : List ValueRow) (i : ℕ) (d : ValueRow) → i < length rows → ((get_or rows i d).parameter ≡ k → ⊥) → count_to k (drop i rows) ≡ count_to k (drop (i + 1) rows)
-count_miss k rows i d h e = at_drop_more (count_to k) rows i d h ∙ cond-false _ _ _ (ne_eqb _ _ (λ s. e (sym s)))
 
 pub count_is : (bytes : List ℕ) (k : ℕ) (rows : List ValueRow) → count_to k rows ≡ length (group k (map (value_of bytes) rows))
 count_is bytes k [] = refl
@@ -34,16 +31,6 @@ count_is bytes k (row ∷ rows) =
       | true ↦ ap suc (count_is bytes k rows)
       | false ↦ count_is bytes k rows
     ]
-
-module _ (accepts : Text → Bool) (bytes : List ℕ) (k : ℕ) (rows : List ValueRow) (i : ℕ) (d : ValueRow) (h : i < length rows) where
-  pub reject_hit : (get_or rows i d).parameter ≡ k → accepts (source_text bytes (get_or rows i d).source) ≡ false → first_rejected accepts bytes k (drop i rows) ≡ Some (get_or rows i d).word
-  reject_hit e a = at_drop_more (first_rejected accepts bytes k) rows i d h ∙ cond-true _ _ _ (and_from _ _ (eq-eqb _ _ (sym e)) (ap not a))
-
-  pub reject_other : ((get_or rows i d).parameter ≡ k → ⊥) → first_rejected accepts bytes k (drop i rows) ≡ first_rejected accepts bytes k (drop (i + 1) rows)
-  reject_other e = at_drop_more (first_rejected accepts bytes k) rows i d h ∙ cond-false _ _ _ (and_left _ _ (ne_eqb _ _ (λ s. e (sym s))))
-
-  pub reject_pass : accepts (source_text bytes (get_or rows i d).source) ≡ true → first_rejected accepts bytes k (drop i rows) ≡ first_rejected accepts bytes k (drop (i + 1) rows)
-  reject_pass a = at_drop_more (first_rejected accepts bytes k) rows i d h ∙ cond-false _ _ _ (and_right _ _ (ap not a))
 
 -- Patterns.
 
@@ -69,42 +56,49 @@ pattern_is judge pattern bytes k (row ∷ rows) = by (eqb k row.parameter) (judg
 pub missing_is : (bytes : List ℕ) (k : ℕ) (m : ParameterMeaning) (p : Parameter) (rows : List ValueRow) → without_texts m ≡ p → missing_row k p rows ≡ is_missing (map (value_of bytes) rows) k m
 missing_is bytes k m p rows e = ap (λ (b : Bool). not b && not (bare_may_be_empty p)) (any_filled bytes k rows) ∙ ap (λ (q : Parameter). not (filled (group k (map (value_of bytes) rows))) && not (bare_may_be_empty q)) (sym e)
 
-module _ (ps : List ParameterMeaning) (i : ℕ) (p : Parameter) (t : There ps i p) where
-  module _ (check : ℕ → ParameterMeaning → Option Refusal) where
-    first_at : first_of check i (drop i ps) ≡ else! (check i t.meaning) (first_of check (i + 1) (drop (i + 1) ps))
-    first_at = ap (first_of check i) t.here ∙ ap (λ (n : ℕ). else! (check i t.meaning) (first_of check n (drop (i + 1) ps))) (sym (add-one i))
+-- an option that is missing, and its fault
+abbrev pub lacks : List ValueRow → code.Called → Bool
+lacks rows c = bare_option c.parameter && missing_row c.place c.parameter rows
 
-    pub first_pass : check i t.meaning ≡ None → first_of check (i + 1) (drop (i + 1) ps) ≡ first_of check i (drop i ps)
-    first_pass e = sym (first_at ∙ ap (λ (o : Option Refusal). else! o (first_of check (i + 1) (drop (i + 1) ps))) e)
+abbrev pub lacking : code.Called → Refusal
+lacking c = MissingOption 0 c.place
 
-    pub first_hit : (f : Refusal) → check i t.meaning ≡ Some f → Some f ≡ first_of check i (drop i ps)
-    first_hit f e = sym (first_at ∙ ap (λ (o : Option Refusal). else! o (first_of check (i + 1) (drop (i + 1) ps))) e)
+first_missing_is : (bytes : List ℕ) (rows : List ValueRow) (k : ℕ) (ps : List ParameterMeaning) → option_map lacking (find (lacks rows) (called_from k ps)) ≡ first_of (check_option (map (value_of bytes) rows)) k ps
+first_missing_is bytes rows k [] = refl
+first_missing_is bytes rows k (p ∷ ps) =
+    let others = find (lacks rows) (called_from (suc k) ps) in
+    ap (λ (b : Bool). option_map lacking (cond (is_option p && b) (Some (record { place = k; parameter = without_texts p })) others)) (missing_is bytes k p (without_texts p) rows refl)
+    ∙ by (is_option p) (is_missing (map (value_of bytes) rows) k p) (without_texts p) others
+    ∙ ap (else! (check_option (map (value_of bytes) rows) k p)) (first_missing_is bytes rows (suc k) ps)
+  where
+    by : (b m : Bool) (q : Parameter) (o : Option code.Called) → option_map lacking (cond (b && m) (Some (record { place = k; parameter = q })) o) ≡ else! (cond b (cond m (Some (MissingOption 0 k)) None) None) (option_map lacking o)
+    by true true q o = refl
+    by true false q o = refl
+    by false m q o = refl
 
-  module _ (bytes : List ℕ) (rows : List ValueRow) where
-    pub option_missing : bare_option p ≡ true → missing_row i p rows ≡ true → check_option (map (value_of bytes) rows) i t.meaning ≡ Some (MissingOption 0 i)
-    option_missing o m = cond-true _ _ _ (ap bare_option t.is ∙ o) ∙ cond-true _ _ _ (sym (missing_is bytes i t.meaning p rows t.is) ∙ m)
+pub first_lacking : (bytes : List ℕ) (rows : List ValueRow) (ps : List ParameterMeaning) (r o : Option code.Called) → r ≡ o → option_map (λ x. x) r ≡ find (lacks rows) (called_from 0 ps) → option_map lacking o ≡ first_of (check_option (map (value_of bytes) rows)) 0 ps
+first_lacking bytes rows ps r o is e = ap (option_map lacking) (sym is ∙ sym (option_map_id r) ∙ e) ∙ first_missing_is bytes rows 0 ps
 
-    pub no_option : bare_option p ≡ false → check_option (map (value_of bytes) rows) i t.meaning ≡ None
-    no_option o = cond-false _ _ _ (ap bare_option t.is ∙ o)
+pub any_missing_is : (bytes : List ℕ) (rows : List ValueRow) (k : ℕ) (ps : List ParameterMeaning) → list_any (λ (c : code.Called). missing_row c.place c.parameter rows) (called_from k ps) ≡ any_missing (map (value_of bytes) rows) k ps
+any_missing_is bytes rows k [] = refl
+any_missing_is bytes rows k (p ∷ ps) =
+    ap (λ (b : Bool). b || list_any (λ (c : code.Called). missing_row c.place c.parameter rows) (called_from (suc k) ps)) (missing_is bytes k p (without_texts p) rows refl)
+    ∙ ap (λ (b : Bool). is_missing (map (value_of bytes) rows) k p || b) (any_missing_is bytes rows (suc k) ps)
 
-    pub option_there : missing_row i p rows ≡ false → check_option (map (value_of bytes) rows) i t.meaning ≡ None
-    option_there m = ap (λ (b : Bool). cond (is_option t.meaning) (cond b (Some (MissingOption 0 i)) None) None) (sym (missing_is bytes i t.meaning p rows t.is) ∙ m) ∙ either (is_option t.meaning)
-      where
-        either : (b : Bool) → cond {A = Option Refusal} b None None ≡ None
-        either true = refl
-        either false = refl
+-- the first fault of the parameters that are left
+pub first_none : (check : ℕ → ParameterMeaning → Option Refusal) (k : ℕ) (ps : List ParameterMeaning) → called_from k ps ≡ [] → None ≡ first_of check k ps
+first_none check k [] e = refl
+first_none check k (p ∷ ps) e = absurd (let z : ◌≡◌ {A = ℕ} 0 1 = cc in omega arith)
 
-    missing_at : any_missing (map (value_of bytes) rows) i (drop i ps) ≡ (missing_row i p rows || any_missing (map (value_of bytes) rows) (i + 1) (drop (i + 1) ps))
-    missing_at =
-        ap (any_missing (map (value_of bytes) rows) i) t.here
-        ∙ ap (λ (n : ℕ). is_missing (map (value_of bytes) rows) i t.meaning || any_missing (map (value_of bytes) rows) n (drop (i + 1) ps)) (sym (add-one i))
-        ∙ ap (λ (b : Bool). b || any_missing (map (value_of bytes) rows) (i + 1) (drop (i + 1) ps)) (sym (missing_is bytes i t.meaning p rows t.is))
+module _ (check : ℕ → ParameterMeaning → Option Refusal) (k : ℕ) (ps : List ParameterMeaning) (c : code.Called) (cs : List code.Called) (t : Ahead k ps c cs) where
+  here : first_of check k ps ≡ else! (check c.place t.meaning) (first_of check (suc k) t.others)
+  here = ap (first_of check k) t.here ∙ ap (λ (n : ℕ). else! (check n t.meaning) (first_of check (suc k) t.others)) (sym t.place)
 
-    pub missing_hit : missing_row i p rows ≡ true → true ≡ any_missing (map (value_of bytes) rows) i (drop i ps)
-    missing_hit e = sym (missing_at ∙ ap (λ (b : Bool). b || any_missing (map (value_of bytes) rows) (i + 1) (drop (i + 1) ps)) e)
+  pub first_pass : check c.place t.meaning ≡ None → first_of check (suc k) t.others ≡ first_of check k ps
+  first_pass e = sym (here ∙ ap (λ (o : Option Refusal). else! o (first_of check (suc k) t.others)) e)
 
-    pub missing_pass : missing_row i p rows ≡ false → any_missing (map (value_of bytes) rows) (i + 1) (drop (i + 1) ps) ≡ any_missing (map (value_of bytes) rows) i (drop i ps)
-    missing_pass e = sym (missing_at ∙ ap (λ (b : Bool). b || any_missing (map (value_of bytes) rows) (i + 1) (drop (i + 1) ps)) e)
+  pub first_hit : (f : Refusal) → check c.place t.meaning ≡ Some f → Some f ≡ first_of check k ps
+  first_hit f e = sym (here ∙ ap (λ (o : Option Refusal). else! o (first_of check (suc k) t.others)) e)
 
 -- One parameter's values.
 module _ (judge : JudgeMeaning) (bytes : List ℕ) (rows : List ValueRow) (k : ℕ) (m : ParameterMeaning) (p : Parameter) (e : without_texts m ≡ p) where

@@ -1,8 +1,6 @@
 -- Steps of the loop over the letters of a switch word. Assumes nothing.
 use Rattle.std.proofs.Common.{◌≡◌, ℕ, zero, suc, ◌+◌, ◌<◌, ◌≤◌, Bool, true, false, cond, eqb, List, [], ◌∷◌, map, length, take, drop, Some, None, Option, sym, refl, ap, ◌∙◌, add-one, arith, length-take}
 use Rattle.std.specs.Str.{continuation_len, lead_bits}
-use Rattle.std.proofs.lemmas.List.{drop_all, drop-drop, length-drop}
-use Rattle.std.proofs.lemmas.Bool.{eqb-true, eqb-false}
 use Rattle.refusal.specs.declared.Refusal.{Refusal}
 use Rattle.text.specs.Identifier.{Text}
 use Rattle.register.specs.Meaning.{ParameterMeaning}
@@ -13,9 +11,12 @@ use Rattle.reading.specs.Switches.{Called, called, called_at}
 use Rattle.reading.specs.Switches.Switch.{Letter}
 use Rattle.reading.specs.Reading.{Value, Waiting, is_full}
 use Rattle.reading.specs.Reading.Waiting.{Nobody}
-use Rattle.reading.specs.Model.{Did, then_step, run}
+use Rattle.reading.specs.Model.{Did, last_step, then_step, run}
 use Rattle.reading.specs.Model.Did.{Gave, Wrong}
-use Rattle.reading.proofs.Unroll.{run_last, run_more}
+use Rattle.std.proofs.lemmas.Bool.{ne_eqb}
+use Rattle.reading.proofs.Bounds.{letters_few}
+use Rattle.reader.specs.Letters.{marked}
+use Rattle.reader.specs.declared.letters.SwitchLetter.{SwitchLetter}
 use Rattle.reader.specs.Meaning.{letter_code, letter_length}
 use Rattle.reader.specs.Answers.{applied}
 use Rattle.reader.proofs.FirstLetter.{from_letter}
@@ -43,18 +44,9 @@ first_letter (b ∷ t) h =
     ∙ ap (λ (x : Text). letter_code (b ∷ take (length (take n t)) t) ∷ letters x) (sym (drop_long n t))
     ∙ ap (λ (k : ℕ). letter_code (take k (b ∷ t)) ∷ letters (drop k (b ∷ t))) (sym (long_is b t))
 
--- the letters that are left, and who waits where none is
-abbrev pub letters_on : List ParameterMeaning → ℕ → Option Text → List Value → Waiting → ℕ → Text → Did
-letters_on ps at value vs who j [] = Gave vs who
-letters_on ps at value vs who j (b ∷ t) = run ps at value vs j (map Letter (letters (b ∷ t)))
-
 abbrev pub on_did : Did → (List Value → Waiting → Did) → Did
 on_did (Gave vs who) go = go vs who
 on_did (Wrong f) go = Wrong f
-
-pub on_start : (ps : List ParameterMeaning) (at : ℕ) (value : Option Text) (vs : List Value) (t : Text) → letters_on ps at value vs Nobody 0 t ≡ run ps at value vs 0 (map Letter (letters t))
-on_start ps at value vs [] = refl
-on_start ps at value vs (b ∷ t) = refl
 
 on_gave : (d : Did) → d ≡ on_did d Gave
 on_gave (Gave vs who) = refl
@@ -69,31 +61,49 @@ then_on : (at j : ℕ) (o : Option Called) (vs : List Value) (go : List Value �
 then_on at j None vs go = refl
 then_on at j (Some c) vs go = on_cond (takes_true c.parameter) (is_full c vs) _ _ _ go
 
-module _ (ps : List ParameterMeaning) (at : ℕ) (value : Option Text) (vs : List Value) (who : Waiting) (j : ℕ) where
-  turn_by : (last : Bool) (code : ℕ) (b : ℕ) (t rest : Text) → letters (b ∷ t) ≡ code ∷ letters rest → (last ≡ true → rest ≡ []) → (last ≡ false → rest ≡ [] → ⊥) → letters_on ps at value vs who j (b ∷ t) ≡ on_did (applied last at j (called ps (Letter code)) value vs) (λ hs w. letters_on ps at value hs w (suc j) rest)
-  turn_by true code b t [] e y n = run_last ps at value vs j code (b ∷ t) [] e refl ∙ on_gave _
-  turn_by true code b t (x ∷ rest) e y n = absurd (let h = y refl in let z : ◌≡◌ {A = ℕ} 0 1 = cc in omega arith)
-  turn_by false code b t [] e y n = absurd (n refl refl)
-  turn_by false code b t (x ∷ rest) e y n =
-      run_more ps at value vs j code (b ∷ t) (x ∷ rest) e (λ h. n refl h)
-      ∙ then_on at j (called ps (Letter code)) vs (λ hs. run ps at value hs (suc j) (map Letter (letters (x ∷ rest))))
+on_same : (d : Did) (f h : List Value → Waiting → Did) → ((hs : List Value) (who : Waiting) → f hs who ≡ h hs who) → on_did d f ≡ on_did d h
+on_same (Gave vs who) f h e = e vs who
+on_same (Wrong r) f h e = refl
 
-  -- one letter, and then those that are left
-  pub turn : (t : Text) (len code : ℕ) (known : Option Called) (d : Did) → 0 < length t → len ≡ letter_length t → len ≤ length t → code ≡ letter_code (take len t) → known ≡ called ps (Letter code) → d ≡ applied (eqb len (length t)) at j known value vs → letters_on ps at value vs who j t ≡ on_did d (λ hs w. letters_on ps at value hs w (suc j) (drop len t))
-  turn [] len code known d h l k e f g = absurd (omega arith)
-  turn (b ∷ t) len code known d h l k e f g =
-      let rest = drop len (b ∷ t) in
-      let there = first_letter (b ∷ t) h ∙ ap (λ (n : ℕ). letter_code (take n (b ∷ t)) ∷ letters (drop n (b ∷ t))) (sym l) ∙ ap (λ (c : ℕ). c ∷ letters rest) (sym e) in
-      turn_by (eqb len (length (b ∷ t))) code b t rest there
-      (λ y. let q = eqb-true _ _ y in drop_all len (b ∷ t) (omega arith))
-      (λ y r. eqb-false _ _ y (let q = length-drop len (b ∷ t) in let s = ap length r in omega arith))
-      ∙ ap (λ (x : Did). on_did x (λ hs w. letters_on ps at value hs w (suc j) rest)) (sym (g ∙ ap (λ (o : Option Called). applied (eqb len (length (b ∷ t))) at j o value vs) f))
+-- the letters that are left, and who waits where none is
+abbrev pub run_on : List ParameterMeaning → ℕ → Option Text → List Value → Waiting → ℕ → List SwitchLetter → Did
+run_on ps at value vs who j [] = Gave vs who
+run_on ps at value vs who j (l ∷ ls) = on_did (applied l.last at j (called_at ps (letter_place ps l.code)) value vs) (λ hs w. run_on ps at value hs w (j + 1) ls)
 
-  -- the letter at a place of a name
-  pub letter_turn : (name rest letter : Text) (i len code : ℕ) (place : Option ℕ) (d : Did) → i < length name → rest ≡ drop i name → len ≡ letter_length rest → len ≤ length rest → letter ≡ take len rest → code ≡ letter_code letter → place ≡ letter_place ps code → d ≡ applied (eqb len (length rest)) at j (called_at ps place) value vs → letters_on ps at value vs who j (drop i name) ≡ on_did d (λ hs w. letters_on ps at value hs w (j + 1) (drop (i + len) name))
-  letter_turn name rest letter i len code place d h r l k e f p g =
-      let some : 0 < length rest = let q = ap length r in let s = length-drop i name in omega arith in
-      ap (letters_on ps at value vs who j) (sym r)
-      ∙ turn rest len code (called_at ps place) d some l k (f ∙ ap letter_code e) (ap (called_at ps) p) g
-      ∙ ap (λ (t : Text). on_did d (λ hs w. letters_on ps at value hs w (suc j) t)) (ap (drop len) r ∙ drop-drop len i name)
-      ∙ ap (λ (n : ℕ). on_did d (λ hs w. letters_on ps at value hs w n (drop (i + len) name))) (sym (add-one j))
+module _ (ps : List ParameterMeaning) (at : ℕ) (value : Option Text) where
+  run_marked : (vs : List Value) (who : Waiting) (j c : ℕ) (cs : List ℕ) → run_on ps at value vs who j (marked (c ∷ cs)) ≡ run ps at value vs j (map Letter (c ∷ cs))
+  run_marked vs who j c [] = sym (on_gave (last_step at j (called ps (Letter c)) value vs))
+  run_marked vs who j c (d ∷ cs) =
+      on_same (then_step at j (called ps (Letter c)) vs (λ hs. Gave hs Nobody)) _ _ (λ hs w. run_marked hs w (j + 1) d cs)
+      ∙ sym (then_on at j (called ps (Letter c)) vs (λ hs. run ps at value hs (j + 1) (map Letter (d ∷ cs))))
+      ∙ ap (λ (k : ℕ). then_step at j (called ps (Letter c)) vs (λ hs. run ps at value hs k (map Letter (d ∷ cs)))) (add-one j)
+
+  pub run_start : (vs : List Value) (cs : List ℕ) → run_on ps at value vs Nobody 0 (marked cs) ≡ run ps at value vs 0 (map Letter cs)
+  run_start vs [] = refl
+  run_start vs (c ∷ cs) = run_marked vs Nobody 0 c cs
+
+-- What is left.
+
+marked_long : (cs : List ℕ) → length (marked cs) ≡ length cs
+marked_long [] = refl
+marked_long (c ∷ []) = refl
+marked_long (c ∷ d ∷ cs) = ap suc (marked_long (d ∷ cs))
+
+pub marked_few : (t : Text) → length (marked (letters t)) ≤ length t
+marked_few t = omega (arith, marked_long (letters t), letters_few t)
+
+marked_more : (c : ℕ) (cs : List ℕ) (d : ℕ) (ds : List ℕ) → cs ≡ d ∷ ds → marked (c ∷ cs) ≡ record { code = c; last = false } ∷ marked cs
+marked_more c cs d ds e = ap (λ (x : List ℕ). marked (c ∷ x)) e ∙ ap (λ (x : List ℕ). record { code = c; last = false } ∷ marked x) (sym e)
+
+marked_here : (c : ℕ) (t : Text) → marked (c ∷ letters t) ≡ record { code = c; last = eqb (length t) 0 } ∷ marked (letters t)
+marked_here c [] = refl
+marked_here c (b ∷ t) = marked_more c (letters (b ∷ t)) _ _ (first_letter (b ∷ t) (omega arith)) ∙ ap (λ (x : Bool). record { code = c; last = x } ∷ marked (letters (b ∷ t))) (sym (ne_eqb (suc (length t)) 0 (λ e. omega arith)))
+
+pub one_left : (t letter rest : Text) (len code : ℕ) → 0 < length t → len ≡ letter_length t → letter ≡ take len t → rest ≡ drop len t → code ≡ letter_code letter → marked (letters t) ≡ record { code = code; last = eqb (length rest) 0 } ∷ marked (letters rest)
+one_left t letter rest len code h l k r e =
+    ap marked (first_letter t h)
+    ∙ ap (λ (n : ℕ). marked (letter_code (take n t) ∷ letters (drop n t))) (sym l)
+    ∙ ap (λ (x : Text). marked (letter_code x ∷ letters (drop len t))) (sym k)
+    ∙ ap (λ (x : Text). marked (letter_code letter ∷ letters x)) (sym r)
+    ∙ ap (λ (c : ℕ). marked (c ∷ letters rest)) (sym e)
+    ∙ marked_here code rest

@@ -1,4 +1,5 @@
 mod Rows
+mod Mapped
 mod FirstLetter
 mod Applies
 mod LetterRuns
@@ -12,4 +13,3 @@ pub mod LineSteps
 mod Bounded
 pub mod Telling
 mod Turns
-mod ParsedTurns

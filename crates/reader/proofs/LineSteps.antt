@@ -19,9 +19,7 @@ use Rattle.reading.proofs.Unroll.{behind_onto}
 use Rattle.std.proofs.lemmas.List.{drop-drop, at_drop_more}
 use Rattle.text.specs.Spans.{texts_at}
 use Rattle.text.specs.declared.span.Span.{Span}
-use Rattle.reader.specs.Meaning.{held}
 use Rattle.reader.specs.Steps.{state_of}
-use Rattle.reader.specs.Scans.{held_roles}
 use Rattle.reader.specs.declared.source.ValueRow.{ValueRow}
 use Rattle.reader.specs.declared.invocation_parser.InvocationParser.{InvocationParser}
 use Rattle.reader.specs.Orders.{unless, order_by, parsed_order}
@@ -75,7 +73,7 @@ module _ (names : NameMeaning) (s : SignatureMeaning) (judge : JudgeMeaning) (wa
       ∙ sym (line_unrolls names s judge walk walks first ws))
 
 pub turn_told : (names : NameMeaning) (s : SignatureMeaning) (judge : JudgeMeaning) (walk : List Text → Result Path Refusal) (walks : (ws : List Text) → PathAnswer names ws (walk ws)) (bytes : List ℕ) (words slice : List Span) (first : ℕ) (before : List ToldOrder) (path : Path) (parser : InvocationParser) (w : ℕ) (rs : List Role) (vs : List ValueRow)
-    → slice ≡ drop first words → w ≡ parser.order.words → rs ≡ held_roles parser.roles → vs ≡ held parser.order.values
+    → slice ≡ drop first words → w ≡ parser.order.words → rs ≡ parser.roles.items → vs ≡ parser.order.values.rows.items
     → LawfulPath names (texts_at bytes slice) path
     → parsed_order s bytes slice (Ok path) parser ≡ order_by s judge (texts_at bytes slice) (walk (texts_at bytes slice))
     → left_from walk s judge (reading_told s bytes (before ++ record { recipe = path.recipe; first = first; path = path.words; words = w; roles = rs; values = vs } ∷ [])) (first + w) (texts_at bytes (drop (first + w) words)) ≡ behind (reading_told s bytes before) (line_from walk s judge first (texts_at bytes (drop first words)))
@@ -83,11 +81,11 @@ turn_told names s judge walk walks bytes words slice first before path parser w 
     let o : ℕ → List Role → List ValueRow → ToldOrder = λ k x y. record { recipe = path.recipe; first = first; path = path.words; words = k; roles = x; values = y } in
     let k = parser.order.words in
     let L : List ToldOrder → ℕ → List Span → Result Reading Refusal = λ a j x. left_from walk s judge (reading_told s bytes a) (first + j) (texts_at bytes x) in
-    ap (λ (a : List ToldOrder). L a w (drop (first + w) words)) (ap (λ (j : ℕ). before ++ o j rs vs ∷ []) n ∙ ap (λ (x : List Role). before ++ o k x vs ∷ []) r ∙ ap (λ (y : List ValueRow). before ++ o k (held_roles parser.roles) y ∷ []) v)
-    ∙ ap (λ (j : ℕ). L (before ++ o k (held_roles parser.roles) (held parser.order.values) ∷ []) j (drop (first + j) words)) n
-    ∙ ap (L (before ++ o k (held_roles parser.roles) (held parser.order.values) ∷ []) k) (sym (ap (drop k) part ∙ drop-drop k first words))
-    ∙ ap (λ (d : Reading). left_from walk s judge d (first + k) (texts_at bytes (drop k slice))) (told_pushed s bytes before (o k (held_roles parser.roles) (held parser.order.values)))
-    ∙ turn_goes names s judge walk walks first (texts_at bytes slice) (reading_told s bytes before) path (state_of (s.parameters path.recipe) bytes parser.order (held_roles parser.roles)) (texts_at bytes (drop k slice)) lawful e
+    ap (λ (a : List ToldOrder). L a w (drop (first + w) words)) (ap (λ (j : ℕ). before ++ o j rs vs ∷ []) n ∙ ap (λ (x : List Role). before ++ o k x vs ∷ []) r ∙ ap (λ (y : List ValueRow). before ++ o k parser.roles.items y ∷ []) v)
+    ∙ ap (λ (j : ℕ). L (before ++ o k parser.roles.items parser.order.values.rows.items ∷ []) j (drop (first + j) words)) n
+    ∙ ap (L (before ++ o k parser.roles.items parser.order.values.rows.items ∷ []) k) (sym (ap (drop k) part ∙ drop-drop k first words))
+    ∙ ap (λ (d : Reading). left_from walk s judge d (first + k) (texts_at bytes (drop k slice))) (told_pushed s bytes before (o k parser.roles.items parser.order.values.rows.items))
+    ∙ turn_goes names s judge walk walks first (texts_at bytes slice) (reading_told s bytes before) path (state_of (s.parameters path.recipe) bytes parser.order parser.roles.items) (texts_at bytes (drop k slice)) lawful e
     ∙ ap (λ (x : List Span). behind (reading_told s bytes before) (line_from walk s judge first (texts_at bytes x))) part
 
 -- words are left

@@ -14,10 +14,10 @@ use Rattle.reading.specs.Model.Ordered.{Took, Refuses}
 use Rattle.reading.specs.declared.role.Role.{Role}
 use Rattle.reader.specs.Meaning.{values_of}
 use Rattle.reader.specs.Steps.{state_of}
-use Rattle.reader.specs.Scans.{held_roles, scanned_of}
+use Rattle.reader.specs.Scans.{scanned_of}
 use Rattle.reader.specs.Orders.{default_fault, unless, order_by}
 use Rattle.reader.specs.declared.invocation.Invocation.{Invocation}
-use Rattle.reader.specs.declared.roles.Roles.{Roles}
+use Rattle.arrayvec.specs.ArrayVec.{ArrayVec}
 
 -- fewer words have fewer bytes
 pub closed-drop : (n : ℕ) (bytes : List ℕ) (words : List Span) → length (closed (texts_at bytes (drop n words))) ≤ length (closed (texts_at bytes words))
@@ -28,7 +28,7 @@ closed-drop (suc n) bytes (w ∷ words) = let h = closed-drop n bytes words in l
 pub default_at_lem : (s : SignatureMeaning) (judge : JudgeMeaning) (ws : List Text) (path : Path) (f : Refusal) → Some f ≡ default_fault s path → Refuses f ≡ order_by s judge ws (Ok path)
 default_at_lem s judge ws path f e = ap (λ (o : Option Refusal). unless o (read_order (s.parameters path.recipe) judge path.words (drop path.words ws))) e
 
-module _ (s : SignatureMeaning) (judge : JudgeMeaning) (bytes : List ℕ) (words slice : List Span) (path : Path) (before order : Invocation) (held : List Role) (roles : Roles) (r : Result ℕ Refusal)
+module _ (s : SignatureMeaning) (judge : JudgeMeaning) (bytes : List ℕ) (words slice : List Span) (path : Path) (before order : Invocation) (held : List Role) (roles : ArrayVec Role) (r : Result ℕ Refusal)
     (part : slice ≡ drop path.words words) (start : state_of (s.parameters path.recipe) bytes before [] ≡ started path.words) (none : held ≡ [])
     (scans : scanned_of (s.parameters path.recipe) bytes slice r order roles ≡ scan (s.parameters path.recipe) (state_of (s.parameters path.recipe) bytes before held) (texts_at bytes slice))
     (allowed : None ≡ default_fault s path) where
@@ -46,15 +46,15 @@ module _ (s : SignatureMeaning) (judge : JudgeMeaning) (bytes : List ℕ) (words
   order_breaks f e = sym (order_at_lem ∙ ap (λ (x : Result ℕ Refusal). scanned (s.parameters path.recipe) judge (scanned_of (s.parameters path.recipe) bytes slice x order roles)) e)
 
   module _ (taken : ℕ) (e : r ≡ Ok taken) where
-    tallies : order_by s judge (texts_at bytes words) (Ok path) ≡ tallied (state_of (s.parameters path.recipe) bytes order (held_roles roles)) (texts_at bytes (drop taken slice)) (tally (s.parameters path.recipe) judge (values_of bytes order.values) order.plains)
+    tallies : order_by s judge (texts_at bytes words) (Ok path) ≡ tallied (state_of (s.parameters path.recipe) bytes order roles.items) (texts_at bytes (drop taken slice)) (tally (s.parameters path.recipe) judge (values_of bytes order.values) order.plains)
     tallies = order_at_lem ∙ ap (λ (x : Result ℕ Refusal). scanned (s.parameters path.recipe) judge (scanned_of (s.parameters path.recipe) bytes slice x order roles)) e
 
     pub order_refuses : (f : Refusal) → Some f ≡ tally (s.parameters path.recipe) judge (values_of bytes order.values) order.plains → Refuses f ≡ order_by s judge (texts_at bytes words) (Ok path)
-    order_refuses f t = sym (tallies ∙ ap (tallied (state_of (s.parameters path.recipe) bytes order (held_roles roles)) (texts_at bytes (drop taken slice))) (sym t))
+    order_refuses f t = sym (tallies ∙ ap (tallied (state_of (s.parameters path.recipe) bytes order roles.items) (texts_at bytes (drop taken slice))) (sym t))
 
-    pub order_takes : None ≡ tally (s.parameters path.recipe) judge (values_of bytes order.values) order.plains → order.words ≡ path.words + taken → Took (state_of (s.parameters path.recipe) bytes order (held_roles roles)) (texts_at bytes (drop order.words words)) ≡ order_by s judge (texts_at bytes words) (Ok path)
+    pub order_takes : None ≡ tally (s.parameters path.recipe) judge (values_of bytes order.values) order.plains → order.words ≡ path.words + taken → Took (state_of (s.parameters path.recipe) bytes order roles.items) (texts_at bytes (drop order.words words)) ≡ order_by s judge (texts_at bytes words) (Ok path)
     order_takes t w =
-        let st = state_of (s.parameters path.recipe) bytes order (held_roles roles) in
+        let st = state_of (s.parameters path.recipe) bytes order roles.items in
         ap (λ (k : ℕ). Took st (texts_at bytes (drop k words))) w
         ∙ ap (λ (x : List Span). Took st (texts_at bytes x)) (sym (ap (drop taken) part ∙ drop-drop taken path.words words))
         ∙ sym (tallies ∙ ap (tallied st (texts_at bytes (drop taken slice))) (sym t))

@@ -1,19 +1,42 @@
 -- Steps of the loops over rows and bytes. Assumes nothing.
-use Rattle.std.proofs.Common.{◌≡◌, ℕ, suc, ◌+◌, ◌<◌, true, List, length, get_or, drop, sym, ◌∙◌}
-use Rattle.std.proofs.lemmas.List.{at_drop_more}
-use Rattle.std.proofs.lemmas.Bool.{eq-eqb, ne_eqb, cond-true, cond-false}
+use Rattle.std.proofs.Common.{◌≡◌, ℕ, suc, ◌+◌, Bool, true, false, cond, not, ◌&&◌, ◌||◌, eqb, List, [], ◌∷◌, Some, Option, sym, refl, ap, ◌∙◌, arith}
+use Rattle.std.proofs.lemmas.Bool.Decides.{nat_tests}
+use Rattle.std.specs.Prelude.{count_by}
+use Rattle.std.specs.List.{list_any, find}
+use Rattle.std.specs.Option.{option_map}
 use Rattle.text.specs.Identifier.{Text}
-use Rattle.reader.specs.Meaning.{any_to, equals_at}
+use Rattle.std.proofs.lemmas.List.Recursion.{is_count_by}
+use Rattle.reader.specs.Meaning.{source_text, any_to}
+use Rattle.reader.specs.Counts.{count_to, first_rejected}
 use Rattle.reader.specs.declared.source.ValueRow.{ValueRow}
 
-pub any_hit : (k : ℕ) (rows : List ValueRow) (i : ℕ) (d : ValueRow) → i < length rows → (get_or rows i d).parameter ≡ k → any_to k (drop i rows) ≡ true
-any_hit k rows i d h e = at_drop_more (any_to k) rows i d h ∙ cond-true _ _ _ (eq-eqb _ _ (sym e))
+-- the library's words, and the word-by-word definitions
 
-pub any_miss : (k : ℕ) (rows : List ValueRow) (i : ℕ) (d : ValueRow) → i < length rows → ((get_or rows i d).parameter ≡ k → ⊥) → any_to k (drop i rows) ≡ any_to k (drop (i + 1) rows)
-any_miss k rows i d h e = at_drop_more (any_to k) rows i d h ∙ cond-false _ _ _ (ne_eqb _ _ (λ s. e (sym s)))
+eqb-swap : (a b : ℕ) → eqb a b ≡ eqb b a
+eqb-swap a b = grind (arith, nat_tests)
 
-pub equals_hit : (t : Text) (i : ℕ) → i < length t → get_or t i 0 ≡ 61 → equals_at (drop i t) ≡ 0
-equals_hit t i h e = at_drop_more equals_at t i 0 h ∙ cond-true _ _ _ (eq-eqb _ _ e)
+pub any_to_is : (k : ℕ) (rows : List ValueRow) → list_any (λ (row : ValueRow). eqb row.parameter k) rows ≡ any_to k rows
+any_to_is k [] = refl
+any_to_is k (row ∷ rows) = ap (λ (b : Bool). b || list_any (λ (row : ValueRow). eqb row.parameter k) rows) (eqb-swap row.parameter k) ∙ by (eqb k row.parameter) ∙ ap (cond (eqb k row.parameter) true) (any_to_is k rows)
+  where
+    by : (b : Bool) → (b || list_any (λ (row : ValueRow). eqb row.parameter k) rows) ≡ cond b true (list_any (λ (row : ValueRow). eqb row.parameter k) rows)
+    by true = refl
+    by false = refl
 
-pub equals_miss : (t : Text) (i : ℕ) → i < length t → (get_or t i 0 ≡ 61 → ⊥) → equals_at (drop i t) ≡ suc (equals_at (drop (i + 1) t))
-equals_miss t i h e = at_drop_more equals_at t i 0 h ∙ cond-false _ _ _ (ne_eqb _ _ e)
+pub count_to_is : (k : ℕ) (rows : List ValueRow) → count_by (λ (row : ValueRow). eqb row.parameter k) rows ≡ count_to k rows
+count_to_is k rows = sym (is_count_by (count_to k) (λ (row : ValueRow). eqb row.parameter k) refl (λ row rows. ap (λ (b : Bool). cond b (suc (count_to k rows)) (count_to k rows)) (eqb-swap k row.parameter) ∙ by (eqb row.parameter k) (count_to k rows)) rows)
+  where
+    by : (b : Bool) (n : ℕ) → cond b (suc n) n ≡ cond b (1 + n) n
+    by true n = omega arith
+    by false n = refl
+
+pub first_rejected_is : (accepts : Text → Bool) (bytes : List ℕ) (k : ℕ) (rows : List ValueRow) → option_map (λ (row : ValueRow). row.word) (find (λ (row : ValueRow). eqb row.parameter k && not (accepts (source_text bytes row.source))) rows) ≡ first_rejected accepts bytes k rows
+first_rejected_is accepts bytes k [] = refl
+first_rejected_is accepts bytes k (row ∷ rows) =
+    let left = find (λ (row : ValueRow). eqb row.parameter k && not (accepts (source_text bytes row.source))) rows in
+    ap (λ (b : Bool). option_map (λ (row : ValueRow). row.word) (cond (b && not (accepts (source_text bytes row.source))) (Some row) left)) (eqb-swap row.parameter k)
+    ∙ by (eqb k row.parameter && not (accepts (source_text bytes row.source))) left (first_rejected accepts bytes k rows) (first_rejected_is accepts bytes k rows)
+  where
+    by : (b : Bool) (o : Option ValueRow) (n : Option ℕ) → option_map (λ (row : ValueRow). row.word) o ≡ n → option_map (λ (row : ValueRow). row.word) (cond b (Some row) o) ≡ cond b (Some row.word) n
+    by true o n e = refl
+    by false o n e = e

@@ -20,9 +20,8 @@ use Rattle.reading.specs.Model.{Ordered, read_order}
 use Rattle.reading.specs.Model.Ordered.{Refuses}
 use Rattle.reading.specs.declared.role.Role.{Role}
 use Rattle.reading.specs.declared.role.Role.TheVariants.{PathWord}
-use Rattle.reader.specs.Meaning.{held, value_of}
+use Rattle.reader.specs.Meaning.{value_of}
 use Rattle.reader.specs.Steps.{state_of}
-use Rattle.reader.specs.Scans.{held_roles}
 use Rattle.reader.specs.Orders.{unless, order_by, parsed_order}
 use Rattle.reader.specs.Told.{ToldOrder, roles_told, all_roles_told, values_told, Fits, UpTo}
 use Rattle.reader.specs.declared.source.ValueRow.{ValueRow}
@@ -54,13 +53,13 @@ refuses_in names s judge ws (Ok path) a f e =
     omega arith
 
 module _ (s : SignatureMeaning) (judge : JudgeMeaning) (bytes : List ℕ) (words slice : List Span) (first : ℕ) (path : Path) (parser : InvocationParser) (w : ℕ) (rs : List Role) (vs : List ValueRow)
-    (part : slice ≡ drop first words) (n : w ≡ parser.order.words) (r : rs ≡ held_roles parser.roles) (v : vs ≡ held parser.order.values)
+    (part : slice ≡ drop first words) (n : w ≡ parser.order.words) (r : rs ≡ parser.roles.items) (v : vs ≡ parser.order.values.rows.items)
     (most : w ≤ length slice) (takes : path.words ≤ length slice)
     (e : parsed_order s bytes slice (Ok path) parser ≡ order_by s judge (texts_at bytes slice) (Ok path)) where
   abbrev pub order_told_here : ToldOrder
   order_told_here = record { recipe = path.recipe; first = first; path = path.words; words = w; roles = rs; values = vs }
 
-  kept : Kept path.words (drop path.words (texts_at bytes slice)) (state_of (s.parameters path.recipe) bytes parser.order (held_roles parser.roles)) (texts_at bytes (drop parser.order.words slice))
+  kept : Kept path.words (drop path.words (texts_at bytes slice)) (state_of (s.parameters path.recipe) bytes parser.order parser.roles.items) (texts_at bytes (drop parser.order.words slice))
   kept = subst (OrderedIn (path.words + length (drop path.words (texts_at bytes slice))) path.words (drop path.words (texts_at bytes slice))) (sym e) (ok_in s judge (texts_at bytes slice) path)
 
   texts_many : (xs : List Span) → length (texts_at bytes xs) ≡ length xs
@@ -79,7 +78,7 @@ module _ (s : SignatureMeaning) (judge : JudgeMeaning) (bytes : List ℕ) (words
   pub values_few : length vs + length (closed (texts_at bytes (drop (first + w) words))) ≤ length (closed (texts_at bytes (drop first words)))
   values_few =
       let f = kept.few in
-      let a = ap length v in let b = length-map (held parser.order.values) (value_of bytes) in
+      let a = ap length v in let b = length-map parser.order.values.rows.items (value_of bytes) in
       let t = ap (λ (x : List Text). length (closed x)) rest-is in
       let d = ap (λ (x : List Text). length (closed x)) (drop-map (text_at bytes) path.words slice) in
       let c = closed-drop path.words bytes slice in

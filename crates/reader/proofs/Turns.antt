@@ -1,6 +1,7 @@
 -- Orders told one after the other, to the line's end. Assumes nothing.
-use Rattle.std.proofs.Common.{◌≡◌, ℕ, ◌<◌, ◌≤◌, Bool, List, [], ◌∷◌, ◌++◌, length, Ok, Err, Result, sym, refl, ap, ◌∙◌, subst, inl, inr, arith}
+use Rattle.std.proofs.Common.{◌≡◌, ℕ, ◌<◌, ◌≤◌, Bool, false, List, [], ◌∷◌, ◌++◌, length, Ok, Err, Result, sym, refl, ap, ◌∙◌, subst, inl, inr, arith}
 use Rattle.std.proofs.lemmas.List.{at_drop_all}
+use Rattle.std.proofs.lemmas.Bool.{true≢false}
 use Rattle.refusal.specs.declared.Refusal.{Refusal}
 use Rattle.text.specs.Identifier.{Text}
 use Rattle.text.specs.Line.{closed}
@@ -16,7 +17,7 @@ use Rattle.reading.specs.Model.{read_line, behind}
 use Rattle.reading.proofs.Lines.{model_only}
 use Rattle.reading.proofs.Unroll.{behind_nothing}
 use Rattle.reader.specs.Told.{ToldOrder, reading_told, UpTo}
-use Rattle.reader.specs.Rest.{left_from, Walks, NextTold, SoFar, AllTold, LineTold}
+use Rattle.reader.specs.Rest.{left_from, Walks, NextTold, SoFar, AllTold, LineTold, EachTold}
 use Rattle.reader.proofs.LineSteps.{left_more}
 
 module _ (names : NameMeaning) (s : SignatureMeaning) (judge : JudgeMeaning) (refuses : Refusal → Bool) (before after : List ℕ → List ToldOrder → Type 0) (bytes : List ℕ) (words : List Span) where
@@ -70,3 +71,9 @@ pub line_told : {U : Type 0} (names : NameMeaning) (s : SignatureMeaning) (judge
 line_told names s judge refuses told bytes words (Ok u) t = (t.0, t.1, t.2, only_reading names s judge words (Ok (reading_told s bytes t.0)) t.3)
 line_told names s judge refuses told bytes words (Err f) (inl r) = inl r
 line_told names s judge refuses told bytes words (Err f) (inr e) = inr (only_reading names s judge words (Err f) e)
+
+-- a taker that never refuses was told each order, or the line's first fault is answered
+pub each_told : {U : Type 0} (names : NameMeaning) (s : SignatureMeaning) (judge : JudgeMeaning) (refuses : Refusal → Bool) (told : List ℕ → List ToldOrder → Type 0) (bytes : List ℕ) (words : List Text) (r : Result U Refusal) → ((f : Refusal) → refuses f ≡ false) → AllTold names s judge refuses told bytes words r → EachTold names s judge told bytes words r
+each_told names s judge refuses told bytes words (Ok u) never t = (t.0, t.1, t.2, record { only = only_reading names s judge words (Ok (reading_told s bytes t.0)) t.3; model = t.3 })
+each_told names s judge refuses told bytes words (Err f) never (inl r) = absurd (true≢false (sym r ∙ never f))
+each_told names s judge refuses told bytes words (Err f) never (inr e) = record { only = only_reading names s judge words (Err f) e; model = e }

@@ -1,38 +1,37 @@
 -- The parts of a switch word. Assumes nothing.
-use Rattle.std.proofs.Common.{◌≡◌, ℕ, zero, suc, ◌+◌, ◌-◌, ◌<◌, ◌≤◌, Bool, true, false, cond, eqb, ◌⊎◌, List, [], ◌∷◌, map, length, take, drop, Some, Option, sym, refl, ap, ◌∙◌, inl, inr, add-one, arith, length-drop, length-take}
-use Rattle.std.proofs.lemmas.List.{drop-drop, drop-take}
-use Rattle.std.proofs.lemmas.Bool.{lt-ltb, le-ltb, cond-true, cond-false, cases_lt}
+use Rattle.std.proofs.Common.{◌≡◌, ℕ, suc, ◌+◌, ◌-◌, ◌<◌, ◌≤◌, Bool, true, false, cond, eqb, ltb, ◌⊎◌, List, [], ◌∷◌, length, take, drop, Some, None, Option, sym, refl, ap, ◌∙◌, inl, inr, add-one, arith, length-drop, length-take}
+use Rattle.std.proofs.lemmas.List.{drop-drop, drop-take, take_all}
+use Rattle.std.proofs.lemmas.Bool.{lt-ltb, le-ltb, ltb-true, ltb-false, cond-true, cond-false, cases_lt}
+use Rattle.std.proofs.lemmas.Option.{cond_some}
+use Rattle.std.proofs.lemmas.List.Recursion.{is_position_or_len}
+use Rattle.std.specs.List.{position_or_len}
 use Rattle.text.specs.Identifier.{Text}
 use Rattle.text.specs.Spans.{text_at}
 use Rattle.text.specs.declared.span.Span.{Span}
-use Rattle.refusal.specs.declared.Refusal.TheVariants.{InvalidOption}
-use Rattle.register.specs.Meaning.{ParameterMeaning}
-use Rattle.register.specs.Parameters.{long_place}
-use Rattle.reading.specs.Letters.{letters}
-use Rattle.reading.specs.Switches.{is_dashed, two_dashes, undashed, up_to_equals, behind_equals, name, attached, spelled, called_at}
-use Rattle.reading.specs.Switches.Switch.{Letter}
-use Rattle.reading.specs.Reading.{Value}
-use Rattle.reading.specs.Model.{Did, last_step, run, is_nil}
-use Rattle.reading.specs.Model.Did.{Wrong}
-use Rattle.reader.specs.Meaning.{equals_at}
-use Rattle.reader.specs.Answers.{behind_byte, word_did}
+use Rattle.reading.specs.Switches.{is_dashed, two_dashes, undashed, up_to_equals, behind_equals, name, attached}
 
-pub span_room : (bytes : List ℕ) (span : Span) (t : Text) (at : ℕ) → t ≡ text_at bytes span → at < length t → (span.start + at + 1 ≤ length bytes) × (at + 1 ≤ span.len)
+-- the place of the first `=`, or the end
+abbrev equals_at : Text → ℕ
+equals_at [] = 0
+equals_at (b ∷ t) = cond (eqb b 61) 0 (suc (equals_at t))
+
+-- the text behind the byte at a place, if one stands there
+abbrev behind_byte : ℕ → Text → Option Text
+behind_byte at t = cond (ltb at (length t)) (Some (drop (at + 1) t)) None
+
+pub span_room : (bytes : List ℕ) (span : Span) (t : Text) (at : ℕ) → t ≡ text_at bytes span → at < length t → (span.start + (at + 1) ≤ length bytes) × (at + 1 ≤ span.len)
 span_room bytes span t at e h =
     let l = ap length e ∙ length-take span.len (drop span.start bytes) in
     let d = length-drop span.start bytes in
     (omega arith, omega arith)
 
-pub behind_is : (bytes : List ℕ) (span : Span) (t : Text) (at : ℕ) → t ≡ text_at bytes span → at < length t → Some (text_at bytes (record { start = span.start + at + 1; len = span.len - at - 1 })) ≡ behind_byte at (text_at bytes span)
+behind_is : (bytes : List ℕ) (span : Span) (t : Text) (at : ℕ) → t ≡ text_at bytes span → at < length t → Some (text_at bytes (record { start = span.start + (at + 1); len = span.len - (at + 1) })) ≡ behind_byte at (text_at bytes span)
 behind_is bytes span t at e h =
     let r = span_room bytes span t at e h in
-    let s : span.len - at - 1 + (at + 1) ≡ span.len = let q = r.1 in omega arith in
-    let u : (at + 1) + (span.len - at - 1) ≡ span.len = let q = r.1 in omega arith in
-    let w : span.start + at + 1 ≡ span.start + (at + 1) = omega arith in
-    let there : take (span.len - at - 1) (drop (span.start + at + 1) bytes) ≡ drop (at + 1) (text_at bytes span) =
-    ap (λ (k : ℕ). take (span.len - at - 1) (drop k bytes)) w
-    ∙ ap (take (span.len - at - 1)) (sym (drop-drop (at + 1) span.start bytes))
-    ∙ sym (drop-take (at + 1) (span.len - at - 1) (drop span.start bytes))
+    let u : (at + 1) + (span.len - (at + 1)) ≡ span.len = let q = r.1 in omega arith in
+    let there : take (span.len - (at + 1)) (drop (span.start + (at + 1)) bytes) ≡ drop (at + 1) (text_at bytes span) =
+    ap (take (span.len - (at + 1))) (sym (drop-drop (at + 1) span.start bytes))
+    ∙ sym (drop-take (at + 1) (span.len - (at + 1)) (drop span.start bytes))
     ∙ ap (λ (k : ℕ). drop (at + 1) (take k (drop span.start bytes))) u
     in
     ap Some there ∙ sym (cond-true _ _ _ (lt-ltb at (length (text_at bytes span)) (let l = ap length e in omega arith)))
@@ -90,32 +89,50 @@ behind_shift d e w = go (cases_lt e (length (drop d w)))
         ∙ sym (cond-true _ _ _ (lt-ltb e (length (drop d w)) h))
     go (inr h) = let l = length-drop d w in cond-false _ _ _ (le-ltb (d + e) (length w) (omega arith)) ∙ sym (cond-false _ _ _ (le-ltb e (length (drop d w)) h))
 
-some_name : (e : ℕ) (t : Text) → 0 < e → e ≤ length t → is_nil (take e t) ≡ false
-some_name zero t h k = absurd (omega arith)
-some_name (suc e) [] h k = absurd (omega arith)
-some_name (suc e) (b ∷ t) h k = refl
+-- where the first `=` is found
+abbrev pub is_equals : ℕ → Bool
+is_equals b = eqb b 61
 
--- what a switch word does, by its parts
-module _ (ps : List ParameterMeaning) (at : ℕ) (vs : List Value) (w rest : Text) (e : ℕ) (r : rest ≡ undashed w) (q : e ≡ equals_at rest) where
-  name_is : name w ≡ take e rest
-  name_is = ap up_to_equals (sym r) ∙ up_to_is rest ∙ ap (λ (k : ℕ). take k rest) (sym q)
+abbrev pub first_equals : Text → Option ℕ
+first_equals t = cond (ltb (position_or_len is_equals t) (length t)) (Some (position_or_len is_equals t)) None
 
-  attached_is : attached w ≡ behind_byte e rest
-  attached_is = ap behind_equals (sym r) ∙ behind_equals_is rest ∙ ap (λ (k : ℕ). behind_byte k rest) (sym q)
+equals_is : (t : Text) → equals_at t ≡ position_or_len is_equals t
+equals_is t = is_position_or_len equals_at is_equals refl (λ b t. ap (cond (eqb b 61) 0) (omega arith)) t
 
-  pub word_invalid : e ≡ 0 → Wrong (InvalidOption at) ≡ word_did ps at vs w
-  word_invalid z = sym (cond-true _ _ _ (ap is_nil (name_is ∙ ap (λ (k : ℕ). take k rest) z)))
+equals_first : (t : Text) → first_equals t ≡ cond (ltb (equals_at t) (length t)) (Some (equals_at t)) None
+equals_first t = ap (λ (n : ℕ). cond (ltb n (length t)) (Some n) None) (sym (equals_is t))
 
-  pub word_long : (e ≡ 0 → ⊥) → e ≤ length rest → two_dashes w ≡ true → (name' : Text) (place : Option ℕ) (value : Option Text) (d : Did) → name' ≡ take e rest → place ≡ long_place ps name' → value ≡ behind_byte e rest → d ≡ last_step at 0 (called_at ps place) value vs → d ≡ word_did ps at vs w
-  word_long h k t name' place value d n p v g =
-      g ∙ ap (λ (o : Option ℕ). last_step at 0 (called_at ps o) value vs) (p ∙ ap (long_place ps) (n ∙ sym name_is))
-      ∙ ap (λ (o : Option Text). run ps at o vs 0 (spelled true (name w))) (v ∙ sym attached_is)
-      ∙ ap (λ (b : Bool). run ps at (attached w) vs 0 (spelled b (name w))) (sym t)
-      ∙ sym (cond-false _ _ _ (ap is_nil name_is ∙ some_name e rest (omega arith) k))
+module _ (bytes : List ℕ) (span : Span) (text rest : Text) (long : Bool) (dashes : ℕ) (e : text ≡ text_at bytes span) (l : long ≡ two_dashes text) (r : rest ≡ drop dashes text) (d : dashes ≡ cond long 2 1) (o : Option ℕ) (p : o ≡ first_equals rest) where
+  is_rest : rest ≡ undashed (text_at bytes span)
+  is_rest = undash text (text_at bytes span) rest long dashes e l r d
 
-  pub word_letters : (e ≡ 0 → ⊥) → e ≤ length rest → two_dashes w ≡ false → (name' : Text) (value : Option Text) (d : Did) → name' ≡ take e rest → value ≡ behind_byte e rest → d ≡ run ps at value vs 0 (map Letter (letters name')) → d ≡ word_did ps at vs w
-  word_letters h k t name' value d n v g =
-      g ∙ ap (λ (x : Text). run ps at value vs 0 (map Letter (letters x))) (n ∙ sym name_is)
-      ∙ ap (λ (o : Option Text). run ps at o vs 0 (spelled false (name w))) (v ∙ sym attached_is)
-      ∙ ap (λ (b : Bool). run ps at (attached w) vs 0 (spelled b (name w))) (sym t)
-      ∙ sym (cond-false _ _ _ (ap is_nil name_is ∙ some_name e rest (omega arith) k))
+  module _ (n : ℕ) (s : o ≡ Some n) where
+    found : (ltb (equals_at rest) (length rest) ≡ true) × (equals_at rest ≡ n)
+    found = cond_some (ltb (equals_at rest) (length rest)) (equals_at rest) n (sym (equals_first rest) ∙ sym p ∙ s)
+
+    pub found_name : take n rest ≡ name (text_at bytes span)
+    found_name = ap (λ (k : ℕ). take k rest) (sym found.1) ∙ sym (up_to_is rest) ∙ ap up_to_equals is_rest
+
+    pub found_within : dashes + n < length text
+    found_within = let h = ltb-true (equals_at rest) (length rest) found.0 in let q = found.1 in let m = ap length r ∙ length-drop dashes text in omega arith
+
+    pub found_value : Some (text_at bytes (record { start = span.start + (dashes + n + 1); len = span.len - (dashes + n + 1) })) ≡ attached (text_at bytes span)
+    found_value =
+        behind_is bytes span text (dashes + n) e found_within
+        ∙ behind_shift dashes n (text_at bytes span)
+        ∙ ap (λ (t : Text). behind_byte n (drop dashes t)) (sym e) ∙ ap (behind_byte n) (sym r) ∙ ap (λ (k : ℕ). behind_byte k rest) (sym found.1)
+        ∙ sym (behind_equals_is rest) ∙ ap behind_equals is_rest
+
+  module _ (s : o ≡ None) where
+    missed : ltb (equals_at rest) (length rest) ≡ false
+    missed = by (ltb (equals_at rest) (length rest)) refl (sym (equals_first rest) ∙ sym p ∙ s)
+      where
+        by : (b : Bool) → ltb (equals_at rest) (length rest) ≡ b → cond b (Some (equals_at rest)) None ≡ None → b ≡ false
+        by true h g = absurd (let z : ◌≡◌ {A = ℕ} 0 1 = cc in omega arith)
+        by false h g = refl
+
+    pub missed_name : rest ≡ name (text_at bytes span)
+    missed_name = sym (take_all (equals_at rest) rest (ltb-false _ _ missed)) ∙ sym (up_to_is rest) ∙ ap up_to_equals is_rest
+
+    pub missed_value : None ≡ attached (text_at bytes span)
+    missed_value = sym (cond-false _ _ _ missed) ∙ sym (behind_equals_is rest) ∙ ap behind_equals is_rest

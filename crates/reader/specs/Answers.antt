@@ -1,5 +1,5 @@
 -- What the reader's steps answer, in the model of the reading. Assumes nothing.
-use Rattle.std.specs.Prelude.{◌≡◌, ℕ, ◌+◌, Bool, true, false, cond, not, ◌&&◌, ◌||◌, List, [], ◌∷◌, ◌++◌, map, length, drop, Some, None, Ok, Err, Option, Result, nat_lt}
+use Rattle.std.specs.Prelude.{◌≡◌, ℕ, Bool, true, false, cond, not, ◌&&◌, ◌||◌, List, [], ◌∷◌, ◌++◌, map, Some, None, Ok, Err, Option, Result}
 use Rattle.refusal.specs.declared.Refusal.{Refusal}
 use Rattle.refusal.specs.declared.Refusal.TheVariants.{DuplicateOption, InvalidOption}
 use Rattle.text.specs.Identifier.{Text}
@@ -18,7 +18,6 @@ use Rattle.reader.specs.declared.source.Source.{Source}
 use Rattle.reader.specs.declared.source.ValueRow.{ValueRow}
 use Rattle.reader.specs.declared.values.Values.{Values}
 use Rattle.reader.specs.declared.waiting.Waiting.{Waiting}
-use Rattle.reader.specs.declared.waiting.Waiting.TheVariants as waits
 
 -- the parameter that is called, with its texts left out
 pub record Shows (ps : List ParameterMeaning) (c : Called) (shown : code.Called) : Type 0 where
@@ -36,12 +35,12 @@ abbrev pub wait_at : ℕ → ℕ → Option Called → reading.Waiting
 wait_at word letter None = Nobody
 wait_at word letter (Some c) = For c word letter
 
-abbrev pub waiting_of : List ParameterMeaning → Waiting → reading.Waiting
-waiting_of ps waits.Nobody = Nobody
-waiting_of ps (waits.For place word letter) = wait_at word letter (called_at ps (Some place))
+abbrev pub waiting_of : List ParameterMeaning → Option Waiting → reading.Waiting
+waiting_of ps None = Nobody
+waiting_of ps (Some waiting) = wait_at waiting.word waiting.letter (called_at ps (Some waiting.place))
 
 -- a switch or a word of switches: the values behind it and who waits, or a fault
-abbrev pub did_of : List ParameterMeaning → List ℕ → Result Waiting Refusal → Values → Did
+abbrev pub did_of : List ParameterMeaning → List ℕ → Result (Option Waiting) Refusal → Values → Did
 did_of ps bytes (Ok who) values = Gave (values_of bytes values) (waiting_of ps who)
 did_of ps bytes (Err refusal) values = Wrong refusal
 
@@ -63,7 +62,3 @@ applied false at j known value vs = then_step at j known vs (λ hs. Gave hs Nobo
 -- a word of switches
 abbrev pub word_did : List ParameterMeaning → ℕ → List Value → Text → Did
 word_did ps at vs w = cond (is_nil (name w)) (Wrong (InvalidOption at)) (run ps at (attached w) vs 0 (switches w))
-
--- the text behind the byte at a place, if one stands there
-abbrev pub behind_byte : ℕ → Text → Option Text
-behind_byte at t = cond (nat_lt at (length t)) (Some (drop (at + 1) t)) None

@@ -1,6 +1,8 @@
 pub mod Meaning
 pub mod Answers
 pub mod Bare
+pub mod Signatures
+pub mod Letters
 pub mod Steps
 pub mod Scans
 pub mod Counts

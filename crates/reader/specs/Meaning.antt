@@ -1,5 +1,5 @@
 -- What the reader's rows and answers mean in the model of the reading. Assumes nothing.
-use Rattle.std.specs.Prelude.{ℕ, suc, ◌+◌, ◌-◌, ◌*◌, min, Bool, true, false, cond, List, [], ◌∷◌, map, length, take, ◌==◌}
+use Rattle.std.specs.Prelude.{ℕ, suc, ◌+◌, ◌-◌, ◌*◌, min, Bool, true, false, cond, List, [], ◌∷◌, map, length, ◌==◌}
 use Rattle.std.specs.Str.{continuation_len, lead_bits}
 use Rattle.text.specs.Identifier.{Text}
 use Rattle.text.specs.Spans.{text_at}
@@ -18,24 +18,13 @@ source_text bytes True = true_text
 abbrev pub value_of : List ℕ → ValueRow → Value
 value_of bytes row = record { parameter = row.parameter; text = source_text bytes row.source; word = row.word }
 
--- the rows up to the fill
-abbrev pub held : Values → List ValueRow
-held values = take values.fill values.rows
-
 abbrev pub values_of : List ℕ → Values → List Value
-values_of bytes values = map (value_of bytes) (held values)
+values_of bytes values = map (value_of bytes) values.rows.items
 
 -- whether a row gives to the parameter at a place
 abbrev pub any_to : ℕ → List ValueRow → Bool
 any_to k [] = false
 any_to k (row ∷ rows) = cond (k == row.parameter) true (any_to k rows)
-
--- Switch words.
-
--- the place of the first `=`, or the end
-abbrev pub equals_at : Text → ℕ
-equals_at [] = 0
-equals_at (b ∷ t) = cond (b == 61) 0 (suc (equals_at t))
 
 -- Letters.
 

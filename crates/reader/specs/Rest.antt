@@ -1,7 +1,6 @@
 -- What the words that are left come to, where orders were told before. Assumes nothing.
 use Rattle.std.specs.Prelude.{◌≡◌, ℕ, ◌<◌, ◌≤◌, Bool, true, ◌⊎◌, List, [], ◌∷◌, ◌++◌, length, drop, Ok, Err, Result}
 use Rattle.refusal.specs.declared.Refusal.{Refusal}
-use Rattle.refusal.specs.Shift.{shifted_by}
 use Rattle.text.specs.Identifier.{Text}
 use Rattle.text.specs.Spans.{texts_at}
 use Rattle.text.specs.declared.span.Span.{Span}
@@ -11,28 +10,12 @@ use Rattle.path.specs.Path.{PathAnswer}
 use Rattle.path.specs.declared.path.Path.{Path}
 use Rattle.reading.specs.Line.{Reading, OnlyReading}
 use Rattle.reading.specs.Model.{line_from, read_line, behind}
-use Rattle.reader.specs.declared.misread.Misread.{Misread}
 use Rattle.reader.specs.Told.{ToldOrder, reading_told, Fits, UpTo}
 
 -- the reading so far, or with the words that are left
 abbrev pub left_from : (List Text → Result Path Refusal) → SignatureMeaning → JudgeMeaning → Reading → ℕ → List Text → Result Reading Refusal
 left_from walk s judge done first [] = Ok done
 left_from walk s judge done first (w ∷ ws) = behind done (line_from walk s judge first (w ∷ ws))
-
--- behind one order: the next order's first word, or a fault
-abbrev pub next_answer : (List Text → Result Path Refusal) → SignatureMeaning → JudgeMeaning → List ℕ → List Span → Result ℕ Misread → Reading → Result Reading Refusal
-next_answer walk s judge bytes words (Ok next) done = left_from walk s judge done next (texts_at bytes (drop next words))
-next_answer walk s judge bytes words (Err misread) done = Err (shifted_by misread.first misread.fault)
-
--- the next order starts further on, within the line
-abbrev pub Further : ℕ → List Span → Result ℕ Misread → Type 0
-Further first words (Ok next) = (next ≤ length words) × (first < length words → first < next)
-Further first words (Err misread) = Unit {0}
-
--- the whole line: what was told, or a fault
-abbrev pub line_answer : {U : Type 0} → Result U Misread → Reading → Result Reading Refusal
-line_answer (Ok u) done = Ok done
-line_answer (Err misread) done = Err (shifted_by misread.first misread.fault)
 
 -- a function that answers the path of the words from an order's first on
 abbrev pub Walks : NameMeaning → (List Text → Result Path Refusal) → Type 0
@@ -69,3 +52,13 @@ AllTold names s judge refuses told bytes words (Err f) = (refuses f ≡ true) �
 abbrev pub LineTold : {U : Type 0} → NameMeaning → SignatureMeaning → JudgeMeaning → (Refusal → Bool) → (List ℕ → List ToldOrder → Type 0) → List ℕ → List Text → Result U Refusal → Type 0
 LineTold names s judge refuses told bytes words (Ok u) = (os : List ToldOrder) × told bytes os × Fits os × OnlyReading names s judge words (Ok (reading_told s bytes os))
 LineTold names s judge refuses told bytes words (Err f) = (refuses f ≡ true) ⊎ OnlyReading names s judge words (Err f)
+
+-- an answer that is the only one of these words, and the model's by any function that answers paths
+pub record OnlyTold (names : NameMeaning) (s : SignatureMeaning) (judge : JudgeMeaning) (words : List Text) (answer : Result Reading Refusal) : Type 0 where
+  pub only : OnlyReading names s judge words answer
+  pub model : (walk : List Text → Result Path Refusal) → Walks names walk → answer ≡ read_line walk s judge words
+
+-- The same where the taker never refuses: it was told the orders of the line's only lawful reading, or this is the line's first fault.
+abbrev pub EachTold : {U : Type 0} → NameMeaning → SignatureMeaning → JudgeMeaning → (List ℕ → List ToldOrder → Type 0) → List ℕ → List Text → Result U Refusal → Type 0
+EachTold names s judge told bytes words (Ok u) = (os : List ToldOrder) × told bytes os × Fits os × OnlyTold names s judge words (Ok (reading_told s bytes os))
+EachTold names s judge told bytes words (Err f) = OnlyTold names s judge words (Err f)

@@ -1,5 +1,5 @@
 -- What all words of an order come to, in the model of the reading. Assumes nothing.
-use Rattle.std.specs.Prelude.{ℕ, List, take, drop, Ok, Err, Result}
+use Rattle.std.specs.Prelude.{ℕ, List, drop, Ok, Err, Result}
 use Rattle.refusal.specs.declared.Refusal.{Refusal}
 use Rattle.text.specs.Spans.{texts_at}
 use Rattle.text.specs.declared.span.Span.{Span}
@@ -9,13 +9,9 @@ use Rattle.reading.specs.Model.Scanned.{Stopped, Broken}
 use Rattle.reading.specs.declared.role.Role.{Role}
 use Rattle.reader.specs.Steps.{state_of}
 use Rattle.reader.specs.declared.invocation.Invocation.{Invocation}
-use Rattle.reader.specs.declared.roles.Roles.{Roles}
-
--- the roles up to the fill
-abbrev pub held_roles : Roles → List Role
-held_roles roles = take roles.fill roles.rows
+use Rattle.arrayvec.specs.ArrayVec.{ArrayVec}
 
 -- so many words were taken, and those behind them are left
-abbrev pub scanned_of : List ParameterMeaning → List ℕ → List Span → Result ℕ Refusal → Invocation → Roles → Scanned
-scanned_of ps bytes words (Ok taken) order roles = Stopped (state_of ps bytes order (held_roles roles)) (texts_at bytes (drop taken words))
+abbrev pub scanned_of : List ParameterMeaning → List ℕ → List Span → Result ℕ Refusal → Invocation → ArrayVec Role → Scanned
+scanned_of ps bytes words (Ok taken) order roles = Stopped (state_of ps bytes order roles.items) (texts_at bytes (drop taken words))
 scanned_of ps bytes words (Err refusal) order roles = Broken refusal

@@ -1,5 +1,5 @@
 -- What the words of an order come to, in the model of the reading. Assumes nothing.
-use Rattle.std.specs.Prelude.{◌≡◌, ℕ, ◌+◌, ◌≤◌, List, [], ◌∷◌, ◌++◌, Some, None, Ok, Err, Option, Result}
+use Rattle.std.specs.Prelude.{◌≡◌, ℕ, ◌+◌, ◌<◌, ◌≤◌, List, [], ◌∷◌, ◌++◌, length, Some, None, Ok, Err, Option, Result}
 use Rattle.refusal.specs.declared.Refusal.{Refusal}
 use Rattle.register.specs.Meaning.{ParameterMeaning}
 use Rattle.reading.specs.Switches.{Called}
@@ -35,9 +35,14 @@ abbrev pub Awaits : List ParameterMeaning → Waiting → Option Awaited → Typ
 Awaits ps who None = who ≡ Nobody
 Awaits ps who (Some awaited) = (c : Called) × (who ≡ For c awaited.word awaited.letter) × Shows ps c awaited.called
 
+-- an order may grow by one word and so many values
+pub record MayGrow (most : ℕ) (order : Invocation) : Type 0 where
+  pub words : order.words < 1024
+  pub values : length order.values.rows.items + most ≤ 1024
+
 -- how far an order grows by a word that has a role: by one word and so many values at most; without a role it stays
 abbrev pub GrowsBy : ℕ → Invocation → Invocation → Result (Option Role) Refusal → Type 0
-GrowsBy most before after (Ok (Some role)) = (after.words ≡ before.words + 1) × (after.values.fill ≤ before.values.fill + most)
+GrowsBy most before after (Ok (Some role)) = (after.words ≡ before.words + 1) × (length after.values.rows.items ≤ length before.values.rows.items + most)
 GrowsBy most before after (Ok None) = after ≡ before
 GrowsBy most before after (Err refusal) = Unit {0}
 

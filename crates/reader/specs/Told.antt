@@ -10,6 +10,7 @@ use Rattle.reading.specs.declared.role.Role.{Role}
 use Rattle.reading.specs.declared.role.Role.TheVariants.{PathWord}
 use Rattle.reader.specs.Meaning.{value_of}
 use Rattle.reader.specs.declared.source.ValueRow.{ValueRow}
+use Rattle.reader.specs.declared.read_order.ReadOrder.{ReadOrder}
 
 pub record ToldOrder : Type 0 where
   pub recipe : ℕ
@@ -18,6 +19,10 @@ pub record ToldOrder : Type 0 where
   pub words : ℕ
   pub roles : List Role
   pub values : List ValueRow
+
+-- an order that was read, as it is told
+abbrev pub as_told : ReadOrder → ToldOrder
+as_told o = record { recipe = o.recipe; first = o.first; path = o.path; words = o.words; roles = o.roles.now; values = o.values.now }
 
 abbrev pub order_told : SignatureMeaning → List ℕ → ToldOrder → Order
 order_told s bytes o = record {

@@ -4,15 +4,16 @@ ghost use Rattle.register.specs.Meaning.{ParameterMeaning};
 ghost use Rattle.register.specs.Parameters.{without_texts};
 ghost use Rattle.reading.specs.Reading.{at_least, at_most, group};
 ghost use Rattle.reading.specs.Model.{first_of, check_option, check_plain, check_pattern, check_sound, any_missing, tally};
-ghost use Rattle.reader.specs.Meaning.{source_text, held, values_of};
+ghost use Rattle.reader.specs.Signatures.{parameters_of};
+ghost use Rattle.reader.specs.Meaning.{source_text, values_of};
 ghost use Rattle.reader.specs.Counts.{count_to, first_rejected, fault_of, missing_row};
 
-use crate::signature::{is_option, may_be_empty, required_plain};
+use crate::called::Called;
+use crate::signature::{Signature, is_option, may_be_empty};
 use crate::source::{Source, ValueRow};
 use crate::values::Values;
 use judge::Judge;
 use refusal::Refusal;
-use register::parameter::Parameter;
 use register::register::Register;
 use text::span::texts::text_at;
 
@@ -30,13 +31,7 @@ pub fn source_text<'a>(bytes: &'a [u8], source: Source) -> &'a [u8]
 fn count_to(rows: &[ValueRow], parameter: usize) -> usize
     ensures { result ≡ count_to parameter rows.now }
 {
-    let mut count = 0;
-    for row in rows {
-        if row.parameter == parameter {
-            count += 1;
-        }
-    }
-    count
+    rows.iter().filter(|row| row.parameter == parameter).count()
 }
 
 // The word of the first value of a parameter that its pattern does not accept.
@@ -49,38 +44,31 @@ fn first_rejected<J: Judge>(
 ) -> Option<usize>
     ensures { result ≡ first_rejected (J.Judge.accepts judge.now pattern) bytes.now parameter rows.now }
 {
-    for row in rows {
-        if row.parameter == parameter && !judge.belongs(pattern, source_text(bytes, row.source)) {
-            return Some(row.word);
-        }
-    }
-    None
+    rows.iter()
+        .find(|row| {
+            row.parameter == parameter && !judge.belongs(pattern, source_text(bytes, row.source))
+        })
+        .map(|row| row.word)
 }
 
 fn at_least(min: Option<u32>, found: usize) -> bool
     ensures { result ≡ at_least min found }
 {
-    match min {
-        Some(least) => least as usize <= found,
-        None => true,
-    }
+    min.is_none_or(|least| least as usize <= found)
 }
 
 fn at_most(max: Option<u32>, found: usize) -> bool
     ensures { result ≡ at_most max found }
 {
-    match max {
-        Some(most) => found <= most as usize,
-        None => true,
-    }
+    max.is_none_or(|most| found <= most as usize)
 }
 
 impl Values {
     // Whether a parameter has no value and needs one.
-    fn is_missing(&self, place: usize, parameter: Parameter) -> bool
-        ensures { result ≡ missing_row place parameter (held self.now) }
+    fn is_missing(&self, called: Called) -> bool
+        ensures { result ≡ missing_row called.place called.parameter self.now.rows.items }
     {
-        !self.has(place) && !may_be_empty(parameter)
+        !self.has(called.place) && !may_be_empty(called.parameter)
     }
 
     // The first value of a parameter that its pattern does not accept.
@@ -106,15 +94,10 @@ impl Values {
     }
 
     // The values of one parameter: how many there are, and its pattern.
-    fn check_group<J: Judge>(
-        &self,
-        judge: &J,
-        bytes: &[u8],
-        place: usize,
-        parameter: Parameter,
-    ) -> Result<(), Refusal>
-        ensures { (m : ParameterMeaning) → without_texts m ≡ parameter → fault_of result ≡ check_sound (J.Judge.accepts judge.now) (values_of bytes.now self.now) place m }
+    fn check_group<J: Judge>(&self, judge: &J, bytes: &[u8], called: Called) -> Result<(), Refusal>
+        ensures { (m : ParameterMeaning) → without_texts m ≡ called.parameter → fault_of result ≡ check_sound (J.Judge.accepts judge.now) (values_of bytes.now self.now) called.place m }
     {
+        let Called { place, parameter } = called;
         if parameter.value || !self.has(place) {
             return Ok(());
         }
@@ -137,50 +120,39 @@ impl Values {
     }
 
     // The first option that is missing.
-    fn check_options<R: Register>(&self, register: &R, recipe: u16) -> Result<(), Refusal>
-        ensures { (bytes : List ℕ) → fault_of result ≡ first_of (check_option (values_of bytes self.now)) 0 ((R.Register.signatures register.now).parameters recipe) }
+    fn check_options<R: Register>(&self, signature: &Signature<'_, R>) -> Result<(), Refusal>
+        ensures { (bytes : List ℕ) → fault_of result ≡ first_of (check_option (values_of bytes self.now)) 0 (parameters_of R.Register.signatures signature.now) }
     {
-        let mut place = 0;
-        while let Some(parameter) = register.parameter(recipe, place) {
-            if is_option(parameter) && self.is_missing(place, parameter) {
-                return Err(Refusal::MissingOption {
-                    word: 0,
-                    parameter: place,
-                });
-            }
-            place += 1;
+        let missing = signature.parameters().find(|called| is_option(called.parameter)
+            && self.is_missing(*called));
+        match missing {
+            Some(called) => Err(Refusal::MissingOption {
+                word: 0,
+                parameter: called.place,
+            }),
+            None => Ok(()),
         }
-        Ok(())
     }
 
-    fn any_missing<R: Register>(&self, register: &R, recipe: u16) -> bool
-        ensures { (bytes : List ℕ) → result ≡ any_missing (values_of bytes self.now) 0 ((R.Register.signatures register.now).parameters recipe) }
+    fn any_missing<R: Register>(&self, signature: &Signature<'_, R>) -> bool
+        ensures { (bytes : List ℕ) → result ≡ any_missing (values_of bytes self.now) 0 (parameters_of R.Register.signatures signature.now) }
     {
-        let mut place = 0;
-        while let Some(parameter) = register.parameter(recipe, place) {
-            if self.is_missing(place, parameter) {
-                return true;
-            }
-            place += 1;
-        }
-        false
+        signature.parameters().any(|called| self.is_missing(called))
     }
 
     // Whether plain words are missing, where so many were found.
     fn check_plain<R: Register>(
         &self,
-        register: &R,
-        recipe: u16,
+        signature: &Signature<'_, R>,
         found: usize,
     ) -> Result<(), Refusal>
-        ensures { (bytes : List ℕ) → fault_of result ≡ check_plain (values_of bytes self.now) found ((R.Register.signatures register.now).parameters recipe) }
+        ensures { (bytes : List ℕ) → fault_of result ≡ check_plain (values_of bytes self.now) found (parameters_of R.Register.signatures signature.now) }
     {
-        if self.any_missing(register, recipe) {
-            let min = required_plain(register, recipe);
+        if self.any_missing(signature) {
             return Err(Refusal::PositionalArgumentCountMismatch {
                 word: 0,
                 found,
-                min,
+                min: signature.required_plain(),
             });
         }
         Ok(())
@@ -189,17 +161,14 @@ impl Values {
     // The first parameter whose values do not keep its rules.
     fn check_values<R: Register, J: Judge>(
         &self,
-        register: &R,
+        signature: &Signature<'_, R>,
         judge: &J,
-        recipe: u16,
         bytes: &[u8],
     ) -> Result<(), Refusal>
-        ensures { fault_of result ≡ first_of (check_sound (J.Judge.accepts judge.now) (values_of bytes.now self.now)) 0 ((R.Register.signatures register.now).parameters recipe) }
+        ensures { fault_of result ≡ first_of (check_sound (J.Judge.accepts judge.now) (values_of bytes.now self.now)) 0 (parameters_of R.Register.signatures signature.now) }
     {
-        let mut place = 0;
-        while let Some(parameter) = register.parameter(recipe, place) {
-            self.check_group(judge, bytes, place, parameter)?;
-            place += 1;
+        for called in signature.parameters() {
+            self.check_group(judge, bytes, called)?;
         }
         Ok(())
     }
@@ -207,16 +176,15 @@ impl Values {
     // The counts of an order with so many plain words.
     pub fn check<R: Register, J: Judge>(
         &self,
-        register: &R,
+        signature: &Signature<'_, R>,
         judge: &J,
-        recipe: u16,
         bytes: &[u8],
         found: usize,
     ) -> Result<(), Refusal>
-        ensures { fault_of result ≡ tally ((R.Register.signatures register.now).parameters recipe) (J.Judge.accepts judge.now) (values_of bytes.now self.now) found }
+        ensures { fault_of result ≡ tally (parameters_of R.Register.signatures signature.now) (J.Judge.accepts judge.now) (values_of bytes.now self.now) found }
     {
-        self.check_options(register, recipe)?;
-        self.check_plain(register, recipe, found)?;
-        self.check_values(register, judge, recipe, bytes)
+        self.check_options(signature)?;
+        self.check_plain(signature, found)?;
+        self.check_values(signature, judge, bytes)
     }
 }

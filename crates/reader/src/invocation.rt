@@ -15,7 +15,7 @@ pub struct Invocation {
     words: usize,
     ended: bool,
     plains: usize,
-    waiting: Waiting,
+    waiting: Option<Waiting>,
     values: Values,
     ghost ok: { plains ≤ words },
 }

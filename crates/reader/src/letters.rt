@@ -1,21 +1,20 @@
 // Letters of a switch word, as code points.
 ghost use Rattle.std.specs.Prelude.{◌≡◌, ◌+◌, ◌*◌, ◌<◌, ◌≤◌, [], ◌∷◌, length};
 ghost use Rattle.std.specs.Str.{continuation_len, lead_bits};
+ghost use Rattle.std.specs.Iterator.{YieldsFirst, item_count};
 ghost use Rattle.reader.specs.Meaning.{letter_length, letter_code, with_tail};
+ghost use Rattle.reader.specs.Letters.{letters_left};
 
 // How many bytes follow a lead byte.
 fn bytes_after(lead: u8) -> usize
     ensures value { result ≡ continuation_len lead }
     ensures few { result ≤ 3 }
 {
-    if lead < 128 {
-        0
-    } else if lead < 224 {
-        1
-    } else if lead < 240 {
-        2
-    } else {
-        3
+    match lead {
+        0..128 => 0,
+        128..224 => 1,
+        224..240 => 2,
+        240.. => 3,
     }
 }
 
@@ -24,16 +23,12 @@ fn lead_bits(lead: u8) -> u32
     ensures value { result ≡ lead_bits lead }
     ensures small { result < 256 }
 {
-    let bits = if lead < 128 {
-        lead
-    } else if lead < 224 {
-        lead.saturating_sub(192)
-    } else if lead < 240 {
-        lead.saturating_sub(224)
-    } else {
-        lead - 240
-    };
-    u32::from(bits)
+    u32::from(match lead {
+        0..128 => lead,
+        128..224 => lead.saturating_sub(192),
+        224..240 => lead - 224,
+        240.. => lead - 240,
+    })
 }
 
 // A code point with the six bits of one more byte.
@@ -53,8 +48,7 @@ pub(crate) fn letter_length(text: &[u8]) -> usize
     ensures few { result ≤ 4 }
     ensures within { result ≤ length text.now }
 {
-    let len = 1 + bytes_after(text[0]);
-    if len < text.len() { len } else { text.len() }
+    text.len().min(1 + bytes_after(text[0]))
 }
 
 // The code point that the bytes of a letter stand for.
@@ -67,5 +61,37 @@ pub fn letter_code(letter: &[u8]) -> u32
         [a, b, c] => with_byte(with_byte(lead_bits(*a), *b), *c),
         [a, b, c, d] => with_byte(with_byte(with_byte(lead_bits(*a), *b), *c), *d),
         _ => 0,
+    }
+}
+
+// A letter of a switch word, as a code point, and whether it is the last.
+#[derive(Clone, Copy)]
+pub(crate) struct SwitchLetter {
+    pub code: u32,
+    pub last: bool,
+}
+
+// The letters of a text.
+#[derive(Drop)]
+pub(crate) struct Letters<'a>(pub &'a [u8]);
+
+impl<'a> Iterator for Letters<'a> {
+    type Item = SwitchLetter;
+
+    ghost next_gives = { YieldsFirst letters_left };
+
+    ghost remaining = { item_count letters_left };
+
+    #[inline]
+    fn next(&mut self) -> Option<SwitchLetter> {
+        if self.0.is_empty() {
+            return None;
+        }
+        let (letter, rest) = self.0.split_at(letter_length(self.0));
+        self.0 = rest;
+        Some(SwitchLetter {
+            code: letter_code(letter),
+            last: rest.is_empty(),
+        })
     }
 }

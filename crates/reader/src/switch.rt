@@ -1,20 +1,20 @@
 // One switch of a switch word.
-ghost use Rattle.std.specs.Prelude.{◌≡◌, ℕ, ◌+◌, ◌<◌, ◌≤◌, ◌||◌, List, Option};
+ghost use Rattle.std.specs.Prelude.{◌≡◌, ℕ, ◌+◌, ◌<◌, ◌≤◌, ◌||◌, List, length, Option};
 ghost use Rattle.std.specs.Option.{option_map};
 ghost use Rattle.register.specs.Meaning.{ParameterMeaning};
 ghost use Rattle.reading.specs.Signature.{is_variadic};
-ghost use Rattle.reading.specs.Switches.{called_at, Called as CalledParameter};
+ghost use Rattle.reading.specs.Switches.{Called as CalledParameter};
 ghost use Rattle.text.specs.Spans.{text_at};
-ghost use Rattle.reader.specs.Meaning.{held, values_of, any_to};
+ghost use Rattle.reader.specs.Meaning.{values_of, any_to};
 ghost use Rattle.reader.specs.Answers.{Calls, full_rows, did_of, gave_row, applied};
 
 use crate::called::Called;
+use crate::signature::is_variadic;
 use crate::source::Source;
 use crate::values::Values;
 use crate::waiting::Waiting;
 use refusal::Refusal;
-use register::parameter::{Parameter, ParameterKind};
-use register::register::Register;
+use register::parameter::Parameter;
 use text::span::Span;
 
 // Whether a parameter takes the text `true` alone: flags and `value` options do.
@@ -28,25 +28,13 @@ fn takes_true(parameter: Parameter) -> bool
 fn holds_several(parameter: Parameter) -> bool
     ensures { result ≡ (is_variadic parameter.kind || parameter.multiple) }
 {
-    match parameter.kind {
-        ParameterKind::Singular => parameter.multiple,
-        ParameterKind::Plus | ParameterKind::Star => true,
-    }
-}
-
-// The parameter at a place that was looked up.
-pub fn called_at<R: Register>(register: &R, recipe: u16, place: Option<usize>) -> Option<Called>
-    ensures { Calls ((R.Register.signatures register.now).parameters recipe) (called_at ((R.Register.signatures register.now).parameters recipe) place) result }
-{
-    let place = place?;
-    let parameter = register.parameter(recipe, place)?;
-    Some(Called { place, parameter })
+    is_variadic(parameter.kind) || parameter.multiple
 }
 
 impl Values {
     // Whether a parameter that may have one switch value has it already.
     pub fn is_full(&self, called: Called) -> bool
-        ensures { result ≡ full_rows called (held self.now) }
+        ensures { result ≡ full_rows called self.now.rows.items }
     {
         !holds_several(called.parameter) && self.has(called.place)
     }
@@ -57,16 +45,16 @@ impl Values {
         letter: usize,
         called: Called,
         source: Source,
-    ) -> Result<Waiting, Refusal>
-        requires { self.old.fill < 1024 }
-        ensures gives { (ps : List ParameterMeaning) (bytes : List ℕ) → did_of ps bytes result self.new ≡ gave_row bytes word letter called source (held self.old) }
-        ensures room { self.new.fill ≤ self.old.fill + 1 }
+    ) -> Result<Option<Waiting>, Refusal>
+        requires { length self.old.rows.items < 1024 }
+        ensures gives { (ps : List ParameterMeaning) (bytes : List ℕ) → did_of ps bytes result self.new ≡ gave_row bytes word letter called source self.old.rows.items }
+        ensures room { length self.new.rows.items ≤ length self.old.rows.items + 1 }
     {
         if self.is_full(called) {
             return Err(Refusal::DuplicateOption { word, letter });
         }
         self.push(called.place, source, word);
-        Ok(Waiting::Nobody)
+        Ok(None)
     }
 
     // Applies a switch of this word, the last one or another, with the value that is attached to the word.
@@ -77,10 +65,10 @@ impl Values {
         called: Option<Called>,
         value: Option<Span>,
         last: bool,
-    ) -> Result<Waiting, Refusal>
-        requires { self.old.fill < 1024 }
+    ) -> Result<Option<Waiting>, Refusal>
+        requires { length self.old.rows.items < 1024 }
         ensures applies { (ps : List ParameterMeaning) (known : Option CalledParameter) (bytes : List ℕ) → Calls ps known called → did_of ps bytes result self.new ≡ applied last word letter known (option_map (text_at bytes) value) (values_of bytes self.old) }
-        ensures room { self.new.fill ≤ self.old.fill + 1 }
+        ensures room { length self.new.rows.items ≤ length self.old.rows.items + 1 }
     {
         let Some(called) = called else {
             return Err(Refusal::UnknownOption { word, letter });
@@ -96,11 +84,11 @@ impl Values {
         }
         match value {
             Some(span) => self.give(word, letter, called, Source::Part(span)),
-            None => Ok(Waiting::For {
+            None => Ok(Some(Waiting {
                 place: called.place,
                 word,
                 letter,
-            }),
+            })),
         }
     }
 }

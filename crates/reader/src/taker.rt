@@ -1,24 +1,31 @@
 // Where the orders of a line go.
-ghost use Rattle.std.specs.Prelude.{◌≡◌, List, [], ◌∷◌, ◌++◌};
-ghost use Rattle.reader.specs.Told.{ToldOrder};
+ghost use Rattle.std.specs.Prelude.{ℕ, ◌≤◌, Bool, List, [], length};
+ghost use Rattle.refusal.specs.declared.Refusal.{Refusal as Fault};
+ghost use Rattle.reader.specs.Told.{ToldOrder, as_told, Took, HasRoom};
 
-use crate::source::ValueRow;
-use reading::role::Role;
+use crate::read_order::ReadOrder;
+use refusal::Refusal;
 
-// Is told each order, in sequence.
+// A taker is told a line, and then each order of its reading, in sequence. It may keep them, count them or compare them, and it may refuse one.
 pub trait Taker {
-    // What it was told so far.
-    ghost told: { Self → List ToldOrder };
+    // Of the line with these bytes it was told these orders, and no others.
+    ghost told: { Self → List ℕ → List ToldOrder → Type 0 };
 
-    // An order: its recipe, its first word, how many words its path has and how many it has, the roles of its words behind the path, and its values, their words counted in the order.
-    fn take(
-        &mut self,
-        recipe: u16,
-        first: usize,
-        path: usize,
-        words: usize,
-        roles: &[Role],
-        values: &[ValueRow],
-    )
-        ensures { told self.new ≡ told self.old ++ record { recipe = recipe; first = first; path = path; words = words; roles = roles.now; values = values.now } ∷ [] };
+    // The refusals that it may answer by itself.
+    ghost refuses: { Fault → Bool };
+
+    // How it stands in a line, beside how it stood before the line began: what it keeps of earlier lines.
+    ghost since: { Self → Self → Type 0 };
+
+    // A line begins.
+    fn start(&mut self, bytes: &[u8])
+        requires { length bytes.now ≤ 1024 }
+        ensures line { told self.new bytes.now [] }
+        ensures since { since self.old self.new };
+
+    // An order. With it, no more is told than lines within the limits have.
+    fn take(&mut self, order: ReadOrder) -> Result<(), Refusal>
+        requires { HasRoom (told self.old) (as_told order) }
+        ensures took { Took refuses (told self.old) (told self.new) (as_told order.entry) result }
+        ensures since { (before : Self) → since before self.old → since before self.new };
 }

@@ -1,10 +1,7 @@
 // Whom the next word is for: the parameter at a place, which the switch at this letter of this word calls.
 #[derive(Clone, Copy)]
-pub enum Waiting {
-    Nobody,
-    For {
-        place: usize,
-        word: usize,
-        letter: usize,
-    },
+pub struct Waiting {
+    pub place: usize,
+    pub word: usize,
+    pub letter: usize,
 }

@@ -46,7 +46,7 @@ letters_from_few (suc n) c [] = omega arith
 letters_from_few zero c (b ∷ t) = let h = letters_from_few (continuation_len b) (lead_bits b) t in omega arith
 letters_from_few (suc n) c (b ∷ t) = let h = letters_from_few n (c * 64 + (b - 128)) t in omega arith
 
-letters_few : (t : Text) → length (letters t) ≤ length t
+pub letters_few : (t : Text) → length (letters t) ≤ length t
 letters_few [] = omega arith
 letters_few (b ∷ t) = letters_from_few (continuation_len b) (lead_bits b) t
 

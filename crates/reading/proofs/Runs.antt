@@ -1,5 +1,5 @@
 -- The switches of one word: the rules' run is the graph of the model's. Assumes nothing.
-use Rattle.std.proofs.Common.{◌≡◌, ℕ, suc, Bool, true, false, List, [], ◌∷◌, ◌++◌, Some, None, Option, refl, ap, ◌∙◌, append_assoc, append-nil, arith}
+use Rattle.std.proofs.Common.{◌≡◌, ℕ, suc, Bool, true, false, List, [], ◌∷◌, ◌++◌, Some, None, Option, refl, ap, ◌∙◌, append_assoc, append-nil}
 use Rattle.refusal.specs.declared.Refusal.{Refusal}
 use Rattle.text.specs.Identifier.{Text}
 use Rattle.register.specs.Meaning.{ParameterMeaning}
@@ -16,7 +16,7 @@ split true f g = f refl
 split false f g = g refl
 
 pub clash : true ≡ false → ⊥
-clash e = let y : ◌≡◌ {A = ℕ} 0 1 = cc in omega arith
+clash e = cc
 
 module _ (ps : List ParameterMeaning) (at : ℕ) (behind : Option Text) where
   -- what a lawful run gives, and whom the next word is for

@@ -1,5 +1,5 @@
 -- The shift of word numbers. Assumes nothing.
-use Rattle.std.proofs.Common.{◌≡◌, ℕ, suc, ◌+◌, eqb, List, [], ◌∷◌, map, sym, refl, ap, ◌∙◌, subst, arith}
+use Rattle.std.proofs.Common.{◌≡◌, ℕ, suc, ◌+◌, eqb, List, [], ◌∷◌, map, sym, refl, ap, ◌∙◌, subst, add_assoc}
 use Rattle.refusal.specs.declared.Refusal.{Refusal}
 use Rattle.refusal.specs.declared.Refusal.TheVariants.{DefaultRecipeRequiresArguments}
 use Rattle.refusal.specs.Shift.{shifted_by}
@@ -13,11 +13,8 @@ use Rattle.reading.specs.Line.{Taken, Order, size, shifted_value, groups_from, o
 use Rattle.reading.specs.Shifts.{shifted_order, ReadingsShift}
 use Rattle.reading.proofs.Runs.{split}
 
-sum : (a b w : ℕ) → (a + b) + w ≡ a + (b + w)
-sum a b w = omega arith
-
 value_twice : (a b : ℕ) (v : Value) → shifted_value (a + b) v ≡ shifted_value a (shifted_value b v)
-value_twice a b v = ap (λ (x : ℕ). record { parameter = v.parameter; text = v.text; word = x }) (sum a b v.word)
+value_twice a b v = ap (λ (x : ℕ). record { parameter = v.parameter; text = v.text; word = x }) (add_assoc a b v.word)
 
 values_twice : (a b : ℕ) (vs : List Value) → map (shifted_value (a + b)) vs ≡ map (shifted_value a) (map (shifted_value b) vs)
 values_twice a b [] = refl
@@ -44,7 +41,7 @@ orders_shifted : (s : SignatureMeaning) (a first : ℕ) (ts : List Taken) → or
 orders_shifted s a first [] = refl
 orders_shifted s a first (t ∷ ts) =
     ap (λ (o : Order). o ∷ orders_of s ((a + first) + size t) ts) (order_shifted (s.parameters t.recipe) a first t)
-    ∙ ap (λ (n : ℕ). shifted_order a (order_of (s.parameters t.recipe) first t) ∷ orders_of s n ts) (sum a first (size t))
+    ∙ ap (λ (n : ℕ). shifted_order a (order_of (s.parameters t.recipe) first t) ∷ orders_of s n ts) (add_assoc a first (size t))
     ∙ ap (λ (os : List Order). shifted_order a (order_of (s.parameters t.recipe) first t) ∷ os) (orders_shifted s a (first + size t) ts)
 
 module _ (names : NameMeaning) (s : SignatureMeaning) (judge : JudgeMeaning) (a : ℕ) where
@@ -52,7 +49,7 @@ module _ (names : NameMeaning) (s : SignatureMeaning) (judge : JudgeMeaning) (a 
   fault_shifted (FaultFrom.path {first} {ws} {f} p) = subst (FaultFrom names s judge (a + first) ws) (sym (shift_twice a first f)) (FaultFrom.path p)
   fault_shifted (FaultFrom.demanding {first} {ws} {found} p d r) = subst (FaultFrom names s judge (a + first) ws) (sym (shift_twice a first (DefaultRecipeRequiresArguments 0 (required_count (s.parameters found.recipe))))) (FaultFrom.demanding p d r)
   fault_shifted (FaultFrom.order {first} {ws} {f = f} p u b) = subst (FaultFrom names s judge (a + first) ws) (sym (shift_twice a first f)) (FaultFrom.order p u b)
-  fault_shifted (FaultFrom.later {first} {ws} {rest} {w} {t} {f} b c) = FaultFrom.later b (subst (λ (n : ℕ). FaultFrom names s judge n (w ∷ rest) (shifted_by a f)) (sym (sum a first (size t))) (fault_shifted c))
+  fault_shifted (FaultFrom.later {first} {ws} {rest} {w} {t} {f} b c) = FaultFrom.later b (subst (λ (n : ℕ). FaultFrom names s judge n (w ∷ rest) (shifted_by a f)) (sym (add_assoc a first (size t))) (fault_shifted c))
 
 pub readings_shift : ReadingsShift
 readings_shift = record { orders = orders_shifted; faults = λ names s judge a first ws f h. fault_shifted names s judge a h }

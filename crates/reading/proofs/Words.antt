@@ -1,5 +1,5 @@
 -- The words of one order: the rules' roles are the graph of the model's steps. Assumes nothing.
-use Rattle.std.proofs.Common.{◌≡◌, ℕ, zero, suc, Bool, true, false, List, [], ◌∷◌, ◌++◌, Some, None, Option, sym, refl, ap, ◌∙◌, subst, append_assoc, append-nil, arith}
+use Rattle.std.proofs.Common.{◌≡◌, ℕ, zero, suc, Bool, true, false, List, [], ◌∷◌, ◌++◌, Some, None, Option, sym, refl, ap, ◌∙◌, subst, append_assoc, append-nil}
 use Rattle.std.specs.Option.{option_map}
 use Rattle.std.specs.Str.{bytes_eq}
 use Rattle.std.proofs.lemmas.Slice.Eq.{bytes_eq-Decides}
@@ -29,11 +29,11 @@ takes_is (further e m) = rw (e, m)
 takes_is (next e m t) = rw (e, m) (ap (option_map suc) (takes_is t))
 
 suc_some : (o : Option ℕ) (k : ℕ) → option_map suc o ≡ Some k → (i : ℕ) × (o ≡ Some i) × (k ≡ suc i)
-suc_some None k e = absurd (let z : ◌≡◌ {A = ℕ} 0 1 = cc in omega arith)
+suc_some None k e = cc
 suc_some (Some i) k e = (i, refl, cc)
 
 pub takes_does : (ps : List ParameterMeaning) (n k : ℕ) → taker ps n ≡ Some k → Takes ps n k
-takes_does [] n k e = absurd (let z : ◌≡◌ {A = ℕ} 0 1 = cc in omega arith)
+takes_does [] n k e = cc
 takes_does (p ∷ ps) zero k e =
     split (is_option p)
     (λ t. let u = suc_some _ k (rw t at e) in rw u.2 (pass t (takes_does ps zero u.0 u.1)))
@@ -73,19 +73,19 @@ nil_was (b ∷ t) e = absurd (clash (sym e))
 
 -- a text that is not empty has a letter
 pub some_letter : (n c : ℕ) (t : Text) → letters_from n c t ≡ [] → ⊥
-some_letter zero c [] e = let y : ◌≡◌ {A = ℕ} 0 1 = cc in omega arith
-some_letter (suc n) c [] e = let y : ◌≡◌ {A = ℕ} 0 1 = cc in omega arith
-some_letter zero c (b ∷ t) e = let y : ◌≡◌ {A = ℕ} 0 1 = cc in omega arith
+some_letter zero c [] e = cc
+some_letter (suc n) c [] e = cc
+some_letter zero c (b ∷ t) e = cc
 some_letter (suc n) c (b ∷ t) e = some_letter n _ t e
 
 map-none : {A B : Type 0} (f : A → B) (xs : List A) → mathlib.Core.List.map f xs ≡ [] → xs ≡ []
 map-none f [] e = refl
-map-none f (x ∷ xs) e = absurd (let y : ◌≡◌ {A = ℕ} 0 1 = cc in omega arith)
+map-none f (x ∷ xs) e = cc
 
 -- a name that is not empty has a switch
 spelled_none : (two : Bool) (t : Text) → spelled two t ≡ [] → t ≡ []
 spelled_none two [] e = refl
-spelled_none true (b ∷ t) e = absurd (let y : ◌≡◌ {A = ℕ} 0 1 = cc in omega arith)
+spelled_none true (b ∷ t) e = cc
 spelled_none false (b ∷ t) e = absurd (some_letter _ _ t (map-none Switch.Letter (letters (b ∷ t)) e))
 
 module _ (ps : List ParameterMeaning) (n : ℕ) where
@@ -131,7 +131,7 @@ module _ (ps : List ParameterMeaning) (n : ℕ) where
   Because before w ws (Fail f) = Faulty ps n before (w ∷ ws) f
 
   home_does : (before : List Given) (w : Text) (ws : List Text) → wants ps n before ≡ Nobody → NoSwitch ps before w → (o : Option ℕ) → taker ps (plains before) ≡ o → Because before w ws (plain_step (state_of ps n before) w o)
-  home_does before w ws e no! None t = Ends.homeless e no! (λ k h. let y : ◌≡◌ {A = ℕ} 0 1 = let s = takes_is h in cc in omega arith)
+  home_does before w ws e no! None t = Ends.homeless e no! (λ k h. let s = takes_is h in cc)
   home_does before w ws e no! (Some k) t = Fits.plain e no! (takes_does ps (plains before) k t)
 
   -- a switch word whose name is not empty

@@ -1,3 +1,4 @@
-pub mod Loops
+pub mod Tables
 pub mod Parts
 pub mod Certain
+pub mod FromNumbers

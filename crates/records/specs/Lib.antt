@@ -1,2 +1,4 @@
 pub mod Records
 pub mod TreeRows
+pub mod Tables
+pub mod Numbered

@@ -1,5 +1,6 @@
 -- What counted rows say over an image's bytes. Assumes nothing.
 use Rattle.std.specs.Prelude.{◌≡◌, ℕ, zero, suc, ◌≤◌, false, List, map, length, take, drop, replicate, Some, None, Option}
+use Rattle.register.specs.declared.parameter.ParameterKind.TheVariants.{Singular}
 use Rattle.text.specs.declared.span.Span.{Span}
 use Rattle.tree.specs.Tree.{Range, Tree}
 use Rattle.tree.specs.Rows.{module_at, name_at, recipe_at, range_at, pattern_at}
@@ -29,7 +30,7 @@ pub record Filled {V : Type 0} (places n : ℕ) (before after : List V) : Type 0
 
 -- no parameter, and no text
 abbrev pub no_parameter : ParameterRow
-no_parameter = record { default = None; flag = false; multiple = false; value = false; kind = None; long = None; letter = None; min = None; max = None; pattern = None }
+no_parameter = record { default = None; flag = false; multiple = false; value = false; kind = Singular; long = None; letter = None; min = None; max = None; pattern = None }
 
 abbrev pub no_text : Span
 no_text = record { start = 0; len = 0 }

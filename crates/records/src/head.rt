@@ -12,10 +12,10 @@ pub(crate) fn read_head(cursor: &mut Cursor) -> Result<Counts, Refusal>
     ensures reads { Reads head_format head_at cursor.old result cursor.new }
     ensures few { IfOk result (λ n. (n.modules ≤ 64) × (n.names ≤ 512) × (n.recipes ≤ 64) × (n.patterns ≤ 256)) }
 {
-    let modules = cursor.read_u16_within(1, 64)?;
-    let names = cursor.read_u16_within(0, 512)?;
-    let recipes = cursor.read_u16_within(0, 64)?;
-    let patterns = cursor.read_u16_within(0, 256)?;
+    let modules = cursor.read_within(1, 64)?;
+    let names = cursor.read_within(0, 512)?;
+    let recipes = cursor.read_within(0, 64)?;
+    let patterns = cursor.read_within(0, 256)?;
     Ok(Counts {
         modules,
         names,

@@ -9,9 +9,11 @@ pub mod counts;
 mod head;
 mod modules;
 mod names;
+mod numbered;
 mod parameters;
 mod patterns;
 mod recipes;
+mod rows;
 pub mod whole;
 
 // At every place of every image stands one tree or one fault at most, and never both.

@@ -6,6 +6,7 @@ ghost use Rattle.tree.specs.Rows.{module_at};
 ghost use Rattle.records.specs.Records.{module_record};
 ghost use Rattle.records.specs.TreeRows.{rows_at, Filled};
 
+use crate::rows::read_table;
 use format::cursor::Cursor;
 use refusal::Refusal;
 use tree::rows::ModuleRow;
@@ -13,8 +14,8 @@ use tree::rows::ModuleRow;
 pub(crate) fn read_module(cursor: &mut Cursor, recipes: u16) -> Result<ModuleRow, Refusal>
     ensures { Reads (module_record recipes) module_at cursor.old result cursor.new }
 {
-    let map = cursor.read_u8_below(2)?;
-    let default = cursor.read_u16_below_if(map as u16, 0, recipes)?;
+    let map = cursor.read_below::<u8>(2)?;
+    let default = cursor.read_if(map, 0, |c| c.read_below(recipes))?;
     Ok(ModuleRow { default })
 }
 
@@ -28,9 +29,5 @@ pub(crate) fn read_modules(
     ensures reads { Reads (rows_format (λ _. module_record recipes) None count) (λ image _. rows_at module_at rows.new count image) cursor.old result cursor.new }
     ensures filled { Filled 64 count rows.old rows.new }
 {
-    for i in 0..count {
-        let row = read_module(cursor, recipes)?;
-        rows[i] = row;
-    }
-    Ok(())
+    read_table(cursor, rows, count, |c, _| read_module(c, recipes))
 }

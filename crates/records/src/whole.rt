@@ -33,13 +33,7 @@ pub fn read_tree(
 {
     let counts = read_head(cursor)?;
     read_modules(cursor, counts.modules as usize, counts.recipes, modules)?;
-    read_names(
-        cursor,
-        counts.names as usize,
-        counts.modules,
-        counts.recipes,
-        names,
-    )?;
+    read_names(cursor, counts, names)?;
     read_recipes(cursor, counts.recipes as usize, counts.patterns, recipes)?;
     read_patterns(cursor, counts.patterns as usize, patterns)?;
     Ok(counts)

@@ -1,5 +1,5 @@
 -- What the screen shows of each refusal: number, layer, word and two figures. What a case does not name is 0.
-use Rattle.std.specs.Prelude.{ℕ, List, ◌∷◌, ◌++◌, decimal}
+use Rattle.std.specs.Prelude.{ℕ, List, ◌∷◌, ◌++◌, codes, decimal}
 use Rattle.refusal.specs.declared.Refusal.{Refusal}
 use Rattle.refusal.specs.declared.Refusal.TheVariants.{ImageTooLong, FieldCutOff, OutOfRange, ForbiddenText, NameNotAbove, ModuleNotNamedOnce, BytesBehind, SharedName, LineTooLong, LineNotClosed, TooManyWords, WordNotUtf8, UnknownRecipe, UnknownSubmodule, ExpectedSubmoduleButFoundRecipe, RecipeDisabled, AliasDisabled, ModuleAbsent, NoRecipes, NoDefaultRecipe, DefaultRecipeRequiresArguments, InvalidOption, UnknownOption, FlagWithValue, NonFinalOptionWithValue, OptionMissingValue, DuplicateOption, MissingOption, PositionalArgumentCountMismatch, ArgumentTooFewValues, ArgumentTooManyValues, ArgumentPatternMismatch, NoSuchParameter, LineKept, SerialsEnd, OrderOut, NoneWaiting, WrongSlip, NotKept}
 use Rattle.refusal.specs.declared.Told.{Told}
@@ -51,3 +51,7 @@ told_of NotKept = shows 45 5 0 0 0
 -- as the screen shows it: five decimal numbers with a space between them
 abbrev pub told_text : Told → List ℕ
 told_text t = decimal t.number ++ (32 ∷ decimal t.layer ++ (32 ∷ decimal t.word ++ (32 ∷ decimal t.first ++ (32 ∷ decimal t.second))))
+
+-- the answer to what is refused
+abbrev pub refusal_text : Refusal → List ℕ
+refusal_text refusal = codes "refused " ++ told_text (told_of refusal)

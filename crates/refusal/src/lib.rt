@@ -2,14 +2,14 @@
 #![tactic(auto)]
 
 ghost use Rattle.std.specs.Prelude.{◌≡◌, Some};
-ghost use Rattle.refusal.specs.Told.{told_of, told_text};
+ghost use Rattle.refusal.specs.Told.{told_of, told_text, refusal_text};
 
 use std::fmt;
 
 pub mod shift;
 
 // Why a call was turned down. Places, words, modules, recipes, parameters and letters are counted from 0.
-#[derive(Clone, Copy)]
+#[derive(Clone, Copy, PartialEq, Eq)]
 pub enum Refusal {
     // the tree image
     ImageTooLong,
@@ -133,7 +133,8 @@ pub enum Refusal {
 }
 
 // What the screen shows of a refusal.
-#[derive(Clone, Copy)]
+// Kept: numbers, since a screen shows nothing else; what is passed on in the code is the case itself.
+#[derive(Clone, Copy, PartialEq, Eq)]
 pub struct Told {
     pub number: u8,
     pub layer: u8,
@@ -220,11 +221,20 @@ impl fmt::Display for Told {
     ghost output = { λ t. Some (told_text t) };
 
     fn fmt<W: fmt::Write>(&self, f: &mut fmt::Formatter<W>) -> fmt::Result {
-        let number = self.number;
-        let layer = self.layer;
-        let word = self.word;
-        let first = self.first;
-        let second = self.second;
-        write!(f, "{number} {layer} {word} {first} {second}")
+        write!(
+            f,
+            "{} {} {} {} {}",
+            self.number, self.layer, self.word, self.first, self.second
+        )
+    }
+}
+
+// `refused`, and the five numbers.
+impl fmt::Display for Refusal {
+    ghost output = { λ refusal. Some (refusal_text refusal) };
+
+    fn fmt<W: fmt::Write>(&self, f: &mut fmt::Formatter<W>) -> fmt::Result {
+        let told = self.told();
+        write!(f, "refused {told}")
     }
 }

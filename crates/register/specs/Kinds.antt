@@ -1,5 +1,5 @@
 -- The numbers of the kinds. Assumes nothing.
-use Rattle.std.specs.Prelude.{◌≡◌, ℕ, Bool, true, false, Option, MatchOption, ◌≢◌}
+use Rattle.std.specs.Prelude.{◌≡◌, ℕ, Bool, true, false, Result, MatchResult, ◌≢◌}
 use Rattle.register.specs.declared.kind.Kind.{Kind}
 use Rattle.register.specs.declared.kind.Kind.TheVariants.{Module, ModuleAlias, Recipe, RecipeAlias, DisabledRecipe, DisabledAlias, AbsentModule}
 
@@ -13,8 +13,8 @@ kind_number DisabledAlias = 5
 kind_number AbsentModule = 6
 
 -- the kind with this number, or no kind has it
-abbrev pub HasNumber : ℕ → Option Kind → Type 0
-HasNumber number answer = MatchOption answer ((k : Kind) → kind_number k ≢ number) (λ k. kind_number k ≡ number)
+abbrev pub IsOfNumber : {E : Type 0} → ℕ → Result Kind E → Type 0
+IsOfNumber number answer = MatchResult answer (λ k. kind_number k ≡ number) (λ _. (k : Kind) → kind_number k ≢ number)
 
 -- disabled and absent names lead nowhere: what is found of them is a label
 abbrev pub labelled : Kind → Bool

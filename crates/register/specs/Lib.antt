@@ -1,4 +1,5 @@
 pub mod Kinds
+pub mod ParameterNumber
 pub mod Meaning
 pub mod Parameters
 pub mod Bare

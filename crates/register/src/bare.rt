@@ -6,7 +6,6 @@ ghost use Rattle.register.specs.BareLaws.{bare_few, bare_apart};
 use crate::kind::Kind;
 use crate::parameter::{Parameter, ParameterKind};
 use crate::register::Register;
-use text::span::texts::same;
 
 // One module with two recipes: `hold`, which takes nothing, and its default `status`, which takes any number of words.
 #[derive(Clone, Copy)]
@@ -16,15 +15,27 @@ const HOLD: u16 = 0;
 
 const STATUS: u16 = 1;
 
+// The parameter of `status`.
+const WORDS: Parameter = Parameter {
+    has_default: false,
+    flag: false,
+    multiple: false,
+    value: false,
+    kind: ParameterKind::Star,
+    has_long: false,
+    letter: None,
+    min: None,
+    max: None,
+    pattern: None,
+};
+
 fn recipe_named(name: &[u8]) -> Option<u16>
     ensures { result ≡ bare_recipe name.now }
 {
-    if same(name, b"hold") {
-        Some(HOLD)
-    } else if same(name, b"status") {
-        Some(STATUS)
-    } else {
-        None
+    match name {
+        b"hold" => Some(HOLD),
+        b"status" => Some(STATUS),
+        _ => None,
     }
 }
 
@@ -53,7 +64,7 @@ impl Register for Bare {
     }
 
     fn default(&self, module: u16) -> Option<u16> {
-        if module == 0 { Some(STATUS) } else { None }
+        (module == 0).then_some(STATUS)
     }
 
     fn has_recipes(&self, module: u16) -> bool {
@@ -65,22 +76,7 @@ impl Register for Bare {
     }
 
     fn parameter(&self, recipe: u16, place: usize) -> Option<Parameter> {
-        if recipe == STATUS && place == 0 {
-            Some(Parameter {
-                has_default: false,
-                flag: false,
-                multiple: false,
-                value: false,
-                kind: ParameterKind::Star,
-                has_long: false,
-                letter: None,
-                min: None,
-                max: None,
-                pattern: None,
-            })
-        } else {
-            None
-        }
+        (recipe == STATUS && place == 0).then_some(WORDS)
     }
 
     fn long(&self, _recipe: u16, _name: &[u8]) -> Option<usize> {

@@ -5,4 +5,5 @@ pub mod bare;
 pub mod kind;
 pub mod mount;
 pub mod parameter;
+pub mod parameter_number;
 pub mod register;

@@ -1,5 +1,5 @@
 // How many plain words a parameter takes: one, one or more, or any number.
-#[derive(Clone, Copy)]
+#[derive(Clone, Copy, PartialEq, Eq)]
 pub enum ParameterKind {
     Singular,
     Plus,
@@ -7,7 +7,8 @@ pub enum ParameterKind {
 }
 
 // A parameter of a recipe without its texts.
-#[derive(Clone, Copy)]
+// Kept: `has_default` and `has_long` stand alone, since the texts that they speak of are what is left out here.
+#[derive(Clone, Copy, PartialEq, Eq)]
 pub struct Parameter {
     pub has_default: bool,
     pub flag: bool,

@@ -7,6 +7,7 @@ ghost use Rattle.register.specs.Parameters.{parameter_at, without_texts, default
 use crate::kind::Kind;
 use crate::parameter::Parameter;
 
+// Kept: a recipe and a place are two arguments, since they are what is asked for, and nothing is known of them together.
 // Where names lead, and what recipes take. A register alters nothing and refuses nothing: unknown numbers find nothing.
 pub trait Register {
     // Where its names lead.

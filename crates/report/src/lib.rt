@@ -1,4 +1,4 @@
-// The text of readings and refusals, for any writer.
+// The text of readings, for any writer.
 #![tactic(auto)]
 
 use book::order_row::OrderRow;
@@ -6,7 +6,7 @@ use book::tables::Book;
 use reader::counts::source_text;
 use reader::source::ValueRow;
 use reading::role::Role;
-use refusal::Refusal;
+use script::answer::WordText;
 use std::fmt;
 
 // A recipe has no more parameters.
@@ -24,24 +24,6 @@ pub struct RolesText<'a> {
     pub book: &'a Book,
 }
 
-// `refused`, and the refusal's five numbers.
-#[derive(Clone, Copy)]
-pub struct RefusedText {
-    pub refusal: Refusal,
-}
-
-// Two digits for each byte of a text; a dash for an empty one.
-fn write_text<W: fmt::Write>(f: &mut fmt::Formatter<W>, text: &[u8]) -> fmt::Result {
-    if text.is_empty() {
-        return f.write_str("-");
-    }
-    for b in text {
-        let b = *b;
-        write!(f, "{b:02x}")?;
-    }
-    Ok(())
-}
-
 // The texts that go to a parameter, if there are any: its place, and behind a colon each text, with commas between them.
 fn write_group<W: fmt::Write>(
     f: &mut fmt::Formatter<W>,
@@ -49,17 +31,15 @@ fn write_group<W: fmt::Write>(
     values: &[ValueRow],
     parameter: usize,
 ) -> fmt::Result {
-    let mut first = true;
-    for value in values {
-        if value.parameter == parameter {
-            if first {
-                write!(f, " {parameter}:")?;
-                first = false;
-            } else {
-                f.write_str(",")?;
-            }
-            write_text(f, source_text(bytes, value.source))?;
+    let group = values.iter().filter(|value| value.parameter == parameter);
+    for (i, value) in group.enumerate() {
+        if i == 0 {
+            write!(f, " {parameter}:")?;
+        } else {
+            f.write_str(",")?;
         }
+        let word = source_text(bytes, value.source);
+        write!(f, "{}", WordText { word })?;
     }
     Ok(())
 }
@@ -70,10 +50,7 @@ fn write_order<W: fmt::Write>(
     book: &Book,
     row: OrderRow,
 ) -> fmt::Result {
-    let recipe = row.recipe;
-    let first = row.first;
-    let words = row.words;
-    write!(f, " | {recipe} {first} {words}")?;
+    write!(f, " | {} {} {}", row.recipe, row.first, row.words)?;
     for parameter in 0..PARAMETERS {
         write_group(f, book.line(), book.values(row), parameter)?;
     }
@@ -83,8 +60,7 @@ fn write_order<W: fmt::Write>(
 impl fmt::Display for ReadingText<'_> {
     fn fmt<W: fmt::Write>(&self, f: &mut fmt::Formatter<W>) -> fmt::Result {
         let orders = self.book.orders();
-        let count = orders.len();
-        write!(f, "reading {count}")?;
+        write!(f, "reading {}", orders.len())?;
         for row in orders {
             write_order(f, self.book, *row)?;
         }
@@ -93,6 +69,7 @@ impl fmt::Display for ReadingText<'_> {
 }
 
 // The letter of a role.
+// Kept: the letters are those of this text alone, so a match here is plainer than a type that wraps a role to print it.
 fn letter(role: Role) -> &'static str {
     match role {
         Role::PathWord => "p",
@@ -110,12 +87,5 @@ impl fmt::Display for RolesText<'_> {
             f.write_str(letter(*role))?;
         }
         Ok(())
-    }
-}
-
-impl fmt::Display for RefusedText {
-    fn fmt<W: fmt::Write>(&self, f: &mut fmt::Formatter<W>) -> fmt::Result {
-        let told = self.refusal.told();
-        write!(f, "refused {told}")
     }
 }

@@ -10,9 +10,7 @@ listed_push [] w = ap (λ l. 32 ∷ l) (append-nil (word_text w))
 listed_push (v ∷ ws) w = ap (λ l. 32 ∷ word_text v ++ l) (listed_push ws w) ∙ ap (λ l. 32 ∷ l) (sym (append_assoc (word_text v) (listed ws) (32 ∷ word_text w)))
 
 -- one word more: a space, and then the word
-pub word_more : (start out one two bytes word : List ℕ) (words : List Span) (i : ℕ) (d : Span) → i < length words → word ≡ text_at bytes (get_or words i d) → out ≡ start ++ listed (texts_at bytes (take i words)) → one ≡ out ++ 32 ∷ [] → two ≡ one ++ word_text word → two ≡ start ++ listed (texts_at bytes (take (i + 1) words))
-word_more start out one two bytes word words i d h w e f g =
+pub word_more : (bytes word : List ℕ) (words : List Span) (i : ℕ) (d : Span) → i < length words → word ≡ text_at bytes (get_or words i d) → listed (texts_at bytes (take i words)) ++ (32 ∷ word_text word) ≡ listed (texts_at bytes (take (i + 1) words))
+word_more bytes word words i d h w =
     let done = texts_at bytes (take i words) in
-    g ∙ ap (λ l. l ++ word_text word) f ∙ append_assoc out (32 ∷ []) (word_text word) ∙ ap (λ l. l ++ 32 ∷ word_text word) e
-    ∙ append_assoc start (listed done) (32 ∷ word_text word)
-    ∙ ap (λ l. start ++ l) (sym (listed_push done word) ∙ ap (λ x. listed (done ++ x ∷ [])) w ∙ ap listed (sym (map_more (text_at bytes) words i d h)))
+    sym (listed_push done word) ∙ ap (λ x. listed (done ++ x ∷ [])) w ∙ ap listed (sym (map_more (text_at bytes) words i d h))

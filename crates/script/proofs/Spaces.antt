@@ -1,18 +1,10 @@
 -- The first space of a line.
-use Rattle.std.proofs.Common.{◌≡◌, ℕ, suc, ◌+◌, ◌-◌, ◌<◌, ◌≤◌, eqb, List, [], ◌∷◌, ◌++◌, length, get_or, take, drop, sym, refl, ap, ◌∙◌, subst, inl, inr, arith}
-use Rattle.std.proofs.lemmas.List.{at_drop_more, at_drop_all, drop_more, take-append-drop, take_rest}
-use Rattle.std.proofs.lemmas.Bool.{eq-eqb, ne_eqb, eqb-true, cases_Bool}
+use Rattle.std.proofs.Common.{◌≡◌, ℕ, suc, ◌+◌, ◌-◌, ◌<◌, ◌≤◌, eqb, ltb, cond, ◌==◌, position, Some, None, List, [], ◌∷◌, ◌++◌, length, get_or, take, drop, sym, refl, ap, ◌∙◌, subst, inl, inr, arith}
+use Rattle.std.proofs.lemmas.List.{drop_more, take-append-drop, take_rest}
+use Rattle.std.proofs.lemmas.List.Recursion.{is_position_or_len}
+use Rattle.std.proofs.lemmas.Option.{none-some}
+use Rattle.std.proofs.lemmas.Bool.{eqb-true, cases_Bool, ltb-true, ltb-false}
 use Rattle.script.specs.Call.{first_space, Spaceless}
-
-module _ (line : List ℕ) (i : ℕ) (inside : i < length line) where
-  pub space_here : get_or line i 0 ≡ 32 → first_space (drop i line) ≡ 0
-  space_here e = at_drop_more first_space line i 0 inside ∙ rw (eq-eqb (get_or line i 0) 32 e)
-
-  pub space_later : (get_or line i 0 ≡ 32 → ⊥) → first_space (drop i line) ≡ suc (first_space (drop (i + 1) line))
-  space_later n = at_drop_more first_space line i 0 inside ∙ rw (ne_eqb (get_or line i 0) 32 n)
-
-pub no_more : (line : List ℕ) (i : ℕ) → length line ≤ i → first_space (drop i line) ≡ 0
-no_more line i h = at_drop_all first_space line i h
 
 -- at the first space stands a space, and none before it
 
@@ -32,15 +24,40 @@ name_spaceless (b ∷ t) =
       | inr e ↦ rw (e, e) (ap suc (name_spaceless t))
     ]
 
--- a line parted at its first space
-module _ (line : List ℕ) (at : ℕ) (is : at ≡ first_space line) (within : at ≤ length line) (not_end : at ≡ length line → ⊥) where
-  pub parted_whole : line ≡ take (at - 0) line ++ (32 ∷ take (length line - (at + 1)) (drop (at + 1) line))
-  parted_whole =
-      let k : at - 0 ≡ at = omega arith in
-      let inside : at < length line = omega arith in
-      let space : get_or line at 0 ≡ 32 = ap (λ n. get_or line n 0) is ∙ space_stands line (omega arith) in
-      sym (take-append-drop at line) ∙ ap (λ n. take n line ++ drop at line) (sym k)
-      ∙ ap (λ l. take (at - 0) line ++ l) (drop_more line at 0 inside ∙ ap (λ b. b ∷ drop (at + 1) line) space ∙ ap (λ l. 32 ∷ l) (sym (take_rest line (at + 1))))
+first_space_within : (line : List ℕ) → first_space line ≤ length line
+first_space_within [] = omega arith
+first_space_within (b ∷ t) =
+    elim (cases_Bool (eqb b 32)) [
+      | inl e ↦ rw e (omega arith)
+      | inr e ↦ rw e (let k = first_space_within t in omega arith)
+    ]
 
-  pub parted_name : Spaceless (take (at - 0) line)
-  parted_name = let k : first_space line ≡ at - 0 = omega arith in subst (λ n. Spaceless (take n line)) k (name_spaceless line)
+-- the first space is where the search for one ends
+module _ (line : List ℕ) where
+  found : position (λ b. b == 32) line ≡ cond (ltb (first_space line) (length line)) (Some (first_space line)) None
+  found = ap (λ n. cond (ltb n (length line)) (Some n) None) (sym (is_position_or_len first_space (λ b. b == 32) refl (λ b t. ap (λ n. cond (b == 32) 0 n) (omega arith)) line))
+
+  pub space_at : (at : ℕ) → position (λ b. b == 32) line ≡ Some at → (at ≡ first_space line) × (at < length line)
+  space_at at e =
+      elim (cases_Bool (ltb (first_space line) (length line))) [
+        | inl h ↦ let k : Some (first_space line) ≡ Some at = rw h at (sym found ∙ e) in let j : first_space line ≡ at = cc in let l = ltb-true (first_space line) (length line) h in (sym j, omega arith)
+        | inr h ↦ absurd (none-some at (rw h at (sym found ∙ e)))
+      ]
+
+  pub spaceless : position (λ b. b == 32) line ≡ None → Spaceless line
+  spaceless e =
+      elim (cases_Bool (ltb (first_space line) (length line))) [
+        | inl h ↦ absurd (none-some (first_space line) (sym e ∙ found ∙ (rw h refl)))
+        | inr h ↦ let l = ltb-false (first_space line) (length line) h in let m = first_space_within line in omega arith
+      ]
+
+-- a line parted at its first space
+module _ (line : List ℕ) (at : ℕ) (first : (at ≡ first_space line) × (at < length line)) where
+  pub parted_whole : line ≡ take at line ++ (32 ∷ take (length line - (at + 1)) (drop (at + 1) line))
+  parted_whole =
+      let space : get_or line at 0 ≡ 32 = ap (λ n. get_or line n 0) first.0 ∙ space_stands line (rw (sym first.0) first.1) in
+      sym (take-append-drop at line)
+      ∙ ap (λ l. take at line ++ l) (drop_more line at 0 first.1 ∙ ap (λ b. b ∷ drop (at + 1) line) space ∙ ap (λ l. 32 ∷ l) (sym (take_rest line (at + 1))))
+
+  pub parted_name : Spaceless (take at line)
+  parted_name = subst (λ n. Spaceless (take n line)) (sym first.0) (name_spaceless line)

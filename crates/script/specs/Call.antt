@@ -1,5 +1,5 @@
 -- The lines of a script.
-use Rattle.std.specs.Prelude.{◌≡◌, ℕ, suc, ◌+◌, ◌-◌, ◌*◌, ◌≤◌, Bool, true, cond, ◌&&◌, List, [], ◌∷◌, ◌++◌, map, length, IfSome, Some, None, codes, Option, MatchOption, ◌==◌, nat_le}
+use Rattle.std.specs.Prelude.{◌≡◌, ℕ, suc, ◌+◌, ◌-◌, ◌*◌, Bool, true, cond, ◌&&◌, List, [], ◌∷◌, ◌++◌, map, length, Some, None, codes, Option, MatchOption, ◌==◌, nat_le}
 use Rattle.std.specs.Str.{bytes_eq}
 use Rattle.script.specs.declared.call.Call.{Call}
 use Rattle.script.specs.declared.call.Verb.{Verb}
@@ -56,9 +56,6 @@ with_value n (Some v) = up_to 65535 (n * 10 + v)
 -- a number with one more digit behind it, up to 65,535
 abbrev pub with_digit : ℕ → ℕ → Option ℕ
 with_digit n c = with_value n (digit_value c)
-
-abbrev pub Small : Option ℕ → Type 0
-Small r = IfSome r (λ n. n ≤ 65535)
 
 abbrev pub digits_on : Option ℕ → List ℕ → Option ℕ
 digits_on r [] = r

@@ -1,5 +1,5 @@
 -- Bytes as pairs of hexadecimal digits.
-use Rattle.std.specs.Prelude.{◌≡◌, ℕ, ◌+◌, ◌-◌, ◌*◌, ◌/◌, ◌%◌, ◌<◌, cond, ◌&&◌, List, [], ◌∷◌, Some, None, Option, nat_le, nat_lt}
+use Rattle.std.specs.Prelude.{◌≡◌, ℕ, ◌+◌, ◌-◌, ◌*◌, ◌/◌, ◌%◌, ◌<◌, cond, ◌&&◌, List, [], ◌∷◌, Some, None, Option, nat_le, nat_lt, codes}
 use Rattle.std.specs.List.{AllByRecursion}
 use Rattle.script.specs.declared.hex.HexFault.{HexFault}
 use Rattle.script.specs.declared.hex.HexFault.TheVariants.{NotHex, NoMemory}
@@ -24,6 +24,11 @@ value_of c =
 pub data Spells : List ℕ → List ℕ → Type 0 where
   none : Spells [] []
   more : {a b x y : ℕ} {digits bytes : List ℕ} → value_of a ≡ Some x → value_of b ≡ Some y → Spells digits bytes → Spells (a ∷ b ∷ digits) ((x * 16 + y) ∷ bytes)
+
+-- what is printed of it
+abbrev pub fault_text : HexFault → List ℕ
+fault_text NotHex = codes "not the digits of bytes"
+fault_text NoMemory = codes "no memory"
 
 -- why there are no bytes: the digits spell none, or memory is wanting
 abbrev pub Unspelled : List ℕ → HexFault → Type 0

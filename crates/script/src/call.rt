@@ -1,10 +1,9 @@
 // A line of the script, taken apart.
-ghost use Rattle.std.specs.Prelude.{◌≡◌, ◌≤◌, Bool, ◌++◌, length, IfOk, Some, OnOk};
+ghost use Rattle.std.specs.Prelude.{◌≡◌, ◌==◌, ◌++◌, IfOk, Some, OnOk, position};
 ghost use Rattle.std.specs.Option.{option_map};
-ghost use Rattle.script.specs.Call.{skipped, first_space, Parted, verb_of, typed_as, line_of, digit_value, with_digit, Small, number_of};
+ghost use Rattle.script.specs.Call.{skipped, Parted, verb_of, typed_as, line_of, with_digit, number_of};
 
 use std::alloc::{AllocError, Global};
-use text::span::texts::same;
 
 // What a script line asks for.
 #[derive(Clone, Copy)]
@@ -23,63 +22,50 @@ pub struct Call<'a> {
     pub rest: Option<&'a [u8]>,
 }
 
+impl Verb {
+    // The call of a name.
+    pub fn named(name: &[u8]) -> Option<Verb>
+        ensures { result ≡ verb_of name.now }
+    {
+        match name {
+            b"words" => Some(Verb::Words),
+            b"wordsx" => Some(Verb::WordsHex),
+            b"find" => Some(Verb::Find),
+            b"recipe" => Some(Verb::Recipe),
+            b"judge" => Some(Verb::Judge),
+            b"help" => Some(Verb::Help),
+            _ => None,
+        }
+    }
+}
+
 // Whether a line asks for nothing: it is blank, or a comment.
 pub fn is_skipped(line: &[u8]) -> bool
     ensures { result ≡ skipped line.now }
 {
-    match line {
-        [] => true,
-        [first, ..] => *first == b'#',
-    }
+    matches!(line, [] | [b'#', ..])
 }
 
-// Where the first space stands, or the line's length.
-fn first_space(line: &[u8]) -> usize
-    ensures value { result ≡ first_space line.now }
-    ensures within { result ≤ length line.now }
+// Where the first space stands.
+fn first_space(line: &[u8]) -> Option<usize>
+    ensures { result ≡ position (λ b. b == 32) line.now }
 {
-    for (i, b) in line.iter().enumerate() {
-        if *b == b' ' {
-            return i;
-        }
-    }
-    line.len()
+    line.iter().position(|b| *b == b' ')
 }
 
+// The call of a line, parted at its first space.
 pub fn part(line: &[u8]) -> Call<'_>
     ensures { Parted line.now result }
 {
-    let at = first_space(line);
-    if at == line.len() {
-        return Call {
+    match first_space(line) {
+        Some(at) => Call {
+            name: &line[..at],
+            rest: Some(&line[at + 1..]),
+        },
+        None => Call {
             name: line,
             rest: None,
-        };
-    }
-    let behind = at + 1;
-    Call {
-        name: &line[0..at],
-        rest: Some(&line[behind..]),
-    }
-}
-
-pub fn named(name: &[u8]) -> Option<Verb>
-    ensures { result ≡ verb_of name.now }
-{
-    if same(name, b"words") {
-        Some(Verb::Words)
-    } else if same(name, b"wordsx") {
-        Some(Verb::WordsHex)
-    } else if same(name, b"find") {
-        Some(Verb::Find)
-    } else if same(name, b"recipe") {
-        Some(Verb::Recipe)
-    } else if same(name, b"judge") {
-        Some(Verb::Judge)
-    } else if same(name, b"help") {
-        Some(Verb::Help)
-    } else {
-        None
+        },
     }
 }
 
@@ -112,37 +98,22 @@ pub fn typed_line(heap: Global, rest: Option<&[u8]>) -> Result<Vec<u8>, AllocErr
     Ok(line)
 }
 
-// A decimal digit's value.
-fn digit_value(digit: u8) -> Option<u32>
-    ensures { result ≡ digit_value digit }
-{
-    match digit {
-        b'0'..=b'9' => Some((digit - b'0') as u32),
-        _ => None,
-    }
-}
-
 // A number with one more digit behind it, up to 65,535.
-fn with_digit(so_far: u32, digit: u8) -> Option<u32>
-    requires { so_far ≤ 65535 }
-    ensures value { result ≡ with_digit so_far digit }
-    ensures small { Small result }
+fn with_digit(so_far: u16, digit: u8) -> Option<u16>
+    ensures { result ≡ with_digit so_far digit }
 {
-    let value = digit_value(digit)?;
-    let number = so_far * 10 + value;
-    if number <= 65535 { Some(number) } else { None }
+    let value = char::from(digit).to_digit(10)?;
+    so_far.checked_mul(10)?.checked_add(value as u16)
 }
 
 // A decimal number up to 65,535, in digits alone.
 pub fn number(text: &[u8]) -> Option<u16>
     ensures { result ≡ number_of text.now }
 {
-    if text.is_empty() {
-        return None;
+    match text {
+        [] => None,
+        digits => digits
+            .iter()
+            .try_fold(0, |so_far, digit| with_digit(so_far, *digit)),
     }
-    let mut so_far = 0;
-    for digit in text {
-        so_far = with_digit(so_far, *digit)?;
-    }
-    Some(so_far as u16)
 }

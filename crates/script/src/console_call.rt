@@ -2,9 +2,8 @@
 ghost use Rattle.std.specs.Prelude.{◌≡◌};
 ghost use Rattle.script.specs.MoreCalls.{console_call_of};
 
-use text::span::texts::same;
-
 // What a script can ask of a console.
+// Kept: an enum beside `Verb`, since the program has no console, and its matches need no arm for these calls.
 #[derive(Clone, Copy)]
 pub enum ConsoleCall {
     Admit,
@@ -17,27 +16,21 @@ pub enum ConsoleCall {
     Readback,
 }
 
-// The console call of a name.
-pub fn called(name: &[u8]) -> Option<ConsoleCall>
-    ensures { result ≡ console_call_of name.now }
-{
-    if same(name, b"admit") {
-        Some(ConsoleCall::Admit)
-    } else if same(name, b"admitx") {
-        Some(ConsoleCall::AdmitHex)
-    } else if same(name, b"issue") {
-        Some(ConsoleCall::Issue)
-    } else if same(name, b"ack") {
-        Some(ConsoleCall::Acknowledge)
-    } else if same(name, b"lost") {
-        Some(ConsoleCall::Lost)
-    } else if same(name, b"withdraw") {
-        Some(ConsoleCall::Withdraw)
-    } else if same(name, b"status") {
-        Some(ConsoleCall::Status)
-    } else if same(name, b"readback") {
-        Some(ConsoleCall::Readback)
-    } else {
-        None
+impl ConsoleCall {
+    // The call of a name.
+    pub fn named(name: &[u8]) -> Option<ConsoleCall>
+        ensures { result ≡ console_call_of name.now }
+    {
+        match name {
+            b"admit" => Some(ConsoleCall::Admit),
+            b"admitx" => Some(ConsoleCall::AdmitHex),
+            b"issue" => Some(ConsoleCall::Issue),
+            b"ack" => Some(ConsoleCall::Acknowledge),
+            b"lost" => Some(ConsoleCall::Lost),
+            b"withdraw" => Some(ConsoleCall::Withdraw),
+            b"status" => Some(ConsoleCall::Status),
+            b"readback" => Some(ConsoleCall::Readback),
+            _ => None,
+        }
     }
 }

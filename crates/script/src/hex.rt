@@ -1,70 +1,86 @@
 // Bytes as pairs of hexadecimal digits, both ways.
-ghost use Rattle.std.specs.Prelude.{◌≡◌, ℕ, ◌<◌, List, ◌++◌, string_bytes, MatchResult, OnOk};
-ghost use Rattle.script.specs.Hex.{digit_of, hex_of, value_of, Spells, Unspelled, HexStands};
+ghost use Rattle.std.specs.Prelude.{◌≡◌, ◌<◌, IfSome, Some, MatchResult};
+ghost use Rattle.script.specs.Hex.{hex_of, fault_text, value_of, Spells, Unspelled, HexStands};
+ghost use Rattle.script.specs.declared.hex.HexFault.TheVariants.{NoMemory};
 
-use std::alloc::{AllocError, Global};
+use std::alloc::{AllocError, AllocFailed, Global};
+use std::error::Error;
+use std::fmt;
 
-// The lower-case digit of a number below 16.
-fn digit(n: u8) -> char
-    requires { n < 16 }
-    ensures { result ≡ digit_of n }
-{
-    if n < 10 {
-        (b'0' + n) as char
-    } else {
-        (b'a' + (n - 10)) as char
-    }
+// Bytes, shown as two lower-case digits each.
+#[derive(Clone, Copy)]
+pub struct HexText<'a> {
+    pub bytes: &'a [u8],
 }
 
-// Adds two digits for each byte.
-pub fn push_hex(out: &mut String, bytes: &[u8]) -> Result<(), AllocError>
-    ensures { OnOk result (string_bytes out.new ≡ string_bytes out.old ++ hex_of bytes.now) }
-{
-    for b in bytes {
-        out.push(digit(*b / 16))?;
-        out.push(digit(*b % 16))?;
+impl fmt::Display for HexText<'_> {
+    ghost output = { λ text. Some (hex_of text.bytes.now) };
+
+    fn fmt<W: fmt::Write>(&self, f: &mut fmt::Formatter<W>) -> fmt::Result {
+        for &b in self.bytes {
+            write!(f, "{b:02x}")?;
+        }
+        Ok(())
     }
-    Ok(())
 }
 
 // Why digits spell no bytes.
+#[derive(Clone, Copy, Debug)]
 pub enum HexFault {
     NotHex,
     NoMemory,
 }
 
+impl fmt::Display for HexFault {
+    ghost output = { λ fault. Some (fault_text fault) };
+
+    fn fmt<W: fmt::Write>(&self, f: &mut fmt::Formatter<W>) -> fmt::Result {
+        f.write_str(match self {
+            HexFault::NotHex => "not the digits of bytes",
+            HexFault::NoMemory => "no memory",
+        })
+    }
+}
+
+impl Error for HexFault {}
+
+impl From<AllocError> for HexFault {
+    ghost from_gives = { λ _ fault. fault ≡ NoMemory };
+
+    fn from(_: AllocError) -> HexFault {
+        HexFault::NoMemory
+    }
+}
+
+impl<T: Drop> From<AllocFailed<T>> for HexFault {
+    ghost from_gives = { λ _ fault. fault ≡ NoMemory };
+
+    fn from(_: AllocFailed<T>) -> HexFault {
+        HexFault::NoMemory
+    }
+}
+
 // The value of a digit, in either case.
 fn value(digit: u8) -> Option<u8>
-    ensures { result ≡ value_of digit }
+    ensures value { result ≡ value_of digit }
+    ensures small { IfSome result (λ n. n < 16) }
 {
-    match digit {
-        b'0'..=b'9' => Some(digit - b'0'),
-        b'a'..=b'f' => Some(digit - b'a' + 10),
-        b'A'..=b'F' => Some(digit - b'A' + 10),
-        _ => None,
-    }
+    let value = char::from(digit).to_digit(16)?;
+    Some(value as u8)
 }
 
 // The bytes that the digits spell.
 pub fn unhex(heap: Global, hex: &[u8]) -> Result<Vec<u8>, HexFault>
     ensures { MatchResult result (λ bytes. Spells hex.now bytes.items) (Unspelled hex.now) }
 {
+    let (pairs, []) = hex.as_chunks::<2>() else {
+        return Err(HexFault::NotHex);
+    };
     let mut bytes = Vec::new(heap);
-    let mut at = 0;
-    while at < hex.len() {
-        if at + 1 == hex.len() {
-            return Err(HexFault::NotHex);
-        }
-        let Some(high) = value(hex[at]) else {
-            return Err(HexFault::NotHex);
-        };
-        let Some(low) = value(hex[at + 1]) else {
-            return Err(HexFault::NotHex);
-        };
-        if let Err(_) = bytes.push(high * 16 + low) {
-            return Err(HexFault::NoMemory);
-        }
-        at += 2;
+    for [high, low] in pairs {
+        let high = value(*high).ok_or(HexFault::NotHex)?;
+        let low = value(*low).ok_or(HexFault::NotHex)?;
+        bytes.push(high * 16 + low)?;
     }
     Ok(bytes)
 }

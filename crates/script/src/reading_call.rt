@@ -2,9 +2,8 @@
 ghost use Rattle.std.specs.Prelude.{◌≡◌};
 ghost use Rattle.script.specs.MoreCalls.{reading_call_of};
 
-use text::span::texts::same;
-
 // What a script can ask of a line's reading.
+// Kept: an enum beside `Verb`, since what reads a line matches on these calls alone and needs no arm for others.
 #[derive(Clone, Copy)]
 pub enum ReadingCall {
     Read,
@@ -12,17 +11,16 @@ pub enum ReadingCall {
     Roles,
 }
 
-// The reading call of a name.
-pub fn called(name: &[u8]) -> Option<ReadingCall>
-    ensures { result ≡ reading_call_of name.now }
-{
-    if same(name, b"read") {
-        Some(ReadingCall::Read)
-    } else if same(name, b"readx") {
-        Some(ReadingCall::ReadHex)
-    } else if same(name, b"roles") {
-        Some(ReadingCall::Roles)
-    } else {
-        None
+impl ReadingCall {
+    // The call of a name.
+    pub fn named(name: &[u8]) -> Option<ReadingCall>
+        ensures { result ≡ reading_call_of name.now }
+    {
+        match name {
+            b"read" => Some(ReadingCall::Read),
+            b"readx" => Some(ReadingCall::ReadHex),
+            b"roles" => Some(ReadingCall::Roles),
+            _ => None,
+        }
     }
 }

@@ -1,10 +1,10 @@
 -- The order of keys, rows that ascend, and what a search answers. Assumes nothing.
-use Rattle.std.specs.Prelude.{◌≡◌, ℕ, ◌+◌, ◌<◌, true, ◌⊎◌, List, length, Some, Option, MatchOption, slice_index_or}
+use Rattle.std.specs.Prelude.{◌≡◌, ℕ, ◌+◌, ◌<◌, ◌≤◌, true, ◌⊎◌, List, [], ◌∷◌, length, Some, Option, Result, MatchOption, MatchResult, slice_index_or, refl}
 use Rattle.std.specs.declared.cmp.Ordering.TheVariants.{Less, Equal, Greater}
 use Rattle.std.specs.declared.cmp.Ordering.{Ordering}
 use Rattle.std.specs.Cmp.Lexicographic.{slice_cmp}
 use Rattle.std.specs.Option.{option_map}
-use Rattle.std.specs.Ordering.{is_lt, nat_cmp}
+use Rattle.std.specs.Ordering.{is_lt, nat_cmp, ordering_then}
 use Rattle.std.specs.List.{slice_get}
 
 -- a key is a list of parts
@@ -14,6 +14,15 @@ Key = List ℕ
 -- keys are compared part by part, and a prefix comes first
 abbrev pub ranked : Key → Key → Ordering
 ranked a b = slice_cmp nat_cmp a b
+
+level_last : (o : Ordering) → o ≡ ordering_then o Equal
+level_last Less = refl
+level_last Equal = refl
+level_last Greater = refl
+
+-- keys of one part stand in that part's order
+pub ranked_alone : (x y : ℕ) → nat_cmp x y ≡ ranked (x ∷ []) (y ∷ [])
+ranked_alone x y = level_last (nat_cmp x y)
 
 -- the first key comes before the second
 abbrev pub Before : Key → Key → Type 0
@@ -43,3 +52,13 @@ Finds key rows k answer = MatchOption answer ((i : ℕ) → KeyAt key rows i k �
 abbrev pub FindsRow : {X : Type 0} → (X → Key) → List X → Key → Option X → Type 0
 FindsRow key rows k answer =
     MatchOption answer ((i : ℕ) → KeyAt key rows i k → ⊥) (λ row. (key row ≡ k) × ((i : ℕ) × (slice_get rows i ≡ Some row)))
+
+-- the rows before the place have smaller keys than this one, and those from it on larger ones
+pub record Between {X : Type 0} (key : X → Key) (rows : List X) (k : Key) (place : ℕ) : Type 0 where
+  pub within : place ≤ length rows
+  pub smaller : (i : ℕ) (d : X) → i < place → ranked (key (slice_index_or rows i d)) k ≡ Less
+  pub larger : (i : ℕ) (d : X) → place ≤ i → i < length rows → ranked (key (slice_index_or rows i d)) k ≡ Greater
+
+-- the place of the row with the key, or else the place where such a row would stand
+abbrev pub Searched : {X : Type 0} → (X → Key) → List X → Key → Result ℕ ℕ → Type 0
+Searched key rows k answer = MatchResult answer (λ i. (i < length rows) × KeyAt key rows i k) (Between key rows k)

@@ -1,8 +1,8 @@
 -- The character at the front by its lead byte is the character of the grammar.
-use Rattle.std.proofs.Common.{◌≡◌, ℕ, ◌+◌, ◌<◌, ◌≤◌, Bool, true, false, cond, ◌⊎◌, List, [], ◌∷◌, ◌++◌, length, drop, sym, refl, ap, ◌∙◌, subst, inl, inr, arith}
-use Rattle.std.proofs.lemmas.Bool.{cases_lt, cases_eq, le-leb, lt-leb, cond-true, false≢true}
+use Rattle.std.proofs.Common.{◌≡◌, ℕ, ◌<◌, ◌≤◌, Bool, true, false, cond, ◌⊎◌, List, [], ◌∷◌, ◌++◌, length, drop, eqb, Decides, sym, refl, ap, ◌∙◌, subst, inl, inr, arith}
+use Rattle.std.proofs.lemmas.Bool.{cases_lt, cases_eq, le-leb, lt-leb, cond-true, eqb-true, false≢true}
 use Rattle.std.proofs.lemmas.Bool.Decides.{nat_tests}
-use Rattle.std.proofs.lemmas.List.{drop_at, drop-drop, length-drop}
+use Rattle.std.proofs.lemmas.List.{drop_at}
 use Rattle.text.specs.Lead.{announced, tail, second, followed, front}
 use Rattle.text.specs.Utf8.{Tail, Char, Utf8}
 
@@ -122,6 +122,10 @@ some_char (Char.four_F0 s t u) = omega arith
 some_char (Char.four_F1 f s t u) = omega arith
 some_char (Char.four_F4 s t u) = omega arith
 
+front_some : (bs : List ℕ) → 0 < front bs → 0 < length bs
+front_some [] h = h
+front_some (b ∷ t) h = omega arith
+
 -- a text that is not empty is UTF-8 exactly when a character stands at its front and the rest is UTF-8
 
 pub utf8_front : {bs : List ℕ} → Utf8 bs → 0 < length bs → (0 < front bs) × Utf8 (drop (front bs) bs)
@@ -136,19 +140,15 @@ front_utf8 bs h u =
     let e : drop (front bs) bs ≡ f.rest = ap (drop (front bs)) f.whole ∙ drop_at f.char f.rest (front bs) f.long in
     subst Utf8 (sym f.whole) (Utf8.more f.is (subst Utf8 e u))
 
--- the same from a place on, where a step of n bytes was found
-module _ (bs : List ℕ) (at n : ℕ) (inside : at < length bs) (is : n ≡ front (drop at bs)) where
-  left_over : 0 < length (drop at bs)
-  left_over = omega (arith, length-drop at bs)
+-- the same where a character of n bytes was found at the front
+module _ (bs : List ℕ) (n : ℕ) (some : 0 < front bs) (is : n ≡ front bs) where
+  pub before : Utf8 (drop n bs) → Utf8 bs
+  before u = front_utf8 bs some (subst (λ (k : ℕ). Utf8 (drop k bs)) is u)
 
-  onward : drop (front (drop at bs)) (drop at bs) ≡ drop (at + n) bs
-  onward = ap (λ k. drop k (drop at bs)) (sym is) ∙ drop-drop n at bs
+  pub behind : Utf8 bs → Utf8 (drop n bs)
+  behind u = subst (λ (k : ℕ). Utf8 (drop k bs)) (sym is) (utf8_front u (front_some bs some)).1
 
-  pub none_here : n ≡ 0 → Utf8 (drop at bs) → ⊥
-  none_here z u = let b = (utf8_front u left_over).0 in omega arith
-
-  pub behind : Utf8 (drop at bs) → Utf8 (drop (at + n) bs)
-  behind u = subst Utf8 onward (utf8_front u left_over).1
-
-  pub before : 0 < n → Utf8 (drop (at + n) bs) → Utf8 (drop at bs)
-  before h u = front_utf8 (drop at bs) (omega arith) (subst Utf8 (sym onward) u)
+-- and where none was found
+pub ended : (bs : List ℕ) → (0 < front bs → ⊥) → Decides (eqb (length bs) 0) (Utf8 bs)
+ended [] z = (λ _. Utf8.none, λ _. refl)
+ended (b ∷ t) z = (λ e. absurd (let k = eqb-true (length (b ∷ t)) 0 e in omega arith), λ u. absurd (z (utf8_front u (omega arith)).0))

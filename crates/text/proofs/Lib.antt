@@ -1,4 +1,3 @@
-pub mod Bytes
 pub mod Table
 pub mod Grammar
 pub mod Cuts
@@ -6,6 +5,6 @@ pub mod Lines
 pub mod Filling
 pub mod Valid
 pub mod Kept
-pub mod Dashing
 pub mod Splits
 pub mod Joins
+pub mod Spelled

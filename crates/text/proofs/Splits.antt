@@ -1,32 +1,45 @@
--- Steps of the loops over a word with colons and its pieces.
-use Rattle.std.proofs.Common.{◌≡◌, ℕ, suc, ◌+◌, ◌-◌, ◌<◌, ◌≤◌, Bool, true, false, ◌&&◌, eqb, List, [], ◌∷◌, length, get_or, take, drop, sym, refl, ap, ◌∙◌, ⊎_elim, arith}
-use Rattle.std.proofs.lemmas.List.{take_all, at_drop_more, drop_more}
-use Rattle.std.proofs.lemmas.Bool.{cases_eq, eq-eqb, ne_eqb}
+-- A word with colons and its first piece.
+use Rattle.std.proofs.Common.{◌≡◌, ℕ, zero, suc, get_or, Some, None, Option, Bor, MatchOption, option_map, slice_range, inl, inr, ◌⊎◌, ◌+◌, ◌<◌, ◌≤◌, Bool, true, false, ◌&&◌, eqb, List, [], ◌∷◌, length, take, drop, ⊎_elim, sym, refl, ap, ◌∙◌, arith}
+use Rattle.std.proofs.lemmas.List.{take_all, take_rest}
+use Rattle.std.proofs.lemmas.Bool.{cases_eq, and_parts, eqb-true, eq-eqb}
+use Rattle.std.specs.List.{list_all}
+use Rattle.std.specs.Option.{unwrap_or}
 use Rattle.text.specs.Identifier.{Text, identifier}
-use Rattle.text.specs.Pieces.{has_colon, opens, split, piece_length, identifiers, well_formed}
-
--- one byte on
-module _ (t : Text) (i : ℕ) (here : i < length t) where
-  pub colon_here : get_or t i 0 ≡ 58 → has_colon (drop i t) ≡ true
-  colon_here e = at_drop_more has_colon t i 0 here ∙ rw (eq-eqb (get_or t i 0) 58 e)
-
-  pub colon_more : (get_or t i 0 ≡ 58 → ⊥) → has_colon (drop i t) ≡ has_colon (drop (i + 1) t)
-  colon_more e = at_drop_more has_colon t i 0 here ∙ rw (ne_eqb (get_or t i 0) 58 e)
-
-  pub cut_here : opens (drop i t) ≡ true → piece_length (drop i t) ≡ 0
-  cut_here e =
-      let d = drop_more t i 0 here in
-      at_drop_more piece_length t i 0 here ∙ rw (ap opens (sym d) ∙ e)
-
-  pub cut_more : opens (drop i t) ≡ false → piece_length (drop i t) ≡ suc (piece_length (drop (i + 1) t))
-  cut_more e =
-      let d = drop_more t i 0 here in
-      at_drop_more piece_length t i 0 here ∙ rw (ap opens (sym d) ∙ e)
+use Rattle.text.specs.Pieces.{split, piece_length, identifiers, well_formed}
+use Rattle.text.specs.Left.{pieces_of}
 
 -- two cases of a test
 pub either_way : {C : Type 0} (b : Bool) → (b ≡ true → C) → (b ≡ false → C) → C
 either_way true f g = f refl
 either_way false f g = g refl
+
+-- where the first piece ends, by what stands at each place
+
+no_cut : (w : Text) → ((i j : ℕ) → j ≡ i + 1 → j < length w → get_or w i 0 ≡ 58 → get_or w j 0 ≡ 58 → ⊥) → piece_length w ≡ length w
+no_cut [] n = refl
+no_cut (b ∷ []) n = refl
+no_cut (b ∷ c ∷ t) n =
+    either_way (eqb b 58 && eqb c 58)
+    (λ e. let p = and_parts (eqb b 58) (eqb c 58) e in absurd (n 0 1 (omega arith) (omega arith) (eqb-true b 58 p.0) (eqb-true c 58 p.1)))
+    (λ e. rw e (ap suc (no_cut (c ∷ t) (λ i j s l. n (suc i) (suc j) (omega arith) (omega arith)))))
+
+first_cut : (w : Text) (k j : ℕ) → j ≡ k + 1 → j < length w → get_or w k 0 ≡ 58 → get_or w j 0 ≡ 58 → ((i h : ℕ) → h ≡ i + 1 → i < k → get_or w i 0 ≡ 58 → get_or w h 0 ≡ 58 → ⊥) → piece_length w ≡ k
+first_cut [] k j s l x y n = absurd (omega arith)
+first_cut (b ∷ []) k j s l x y n = absurd (omega arith)
+first_cut (b ∷ c ∷ t) zero j s l x y n = rw (eq-eqb b 58 x, eq-eqb c 58 (ap (λ i. get_or (b ∷ c ∷ t) i 0) (sym s) ∙ y))
+first_cut (b ∷ c ∷ t) (suc k) zero s l x y n = absurd (omega arith)
+first_cut (b ∷ c ∷ t) (suc k) (suc j) s l x y n =
+    either_way (eqb b 58 && eqb c 58)
+    (λ e. let p = and_parts (eqb b 58) (eqb c 58) e in absurd (n 0 1 (omega arith) (omega arith) (eqb-true b 58 p.0) (eqb-true c 58 p.1)))
+    (λ e. rw e (ap suc (first_cut (c ∷ t) k j (omega arith) (omega arith) x y (λ i h s l. n (suc i) (suc h) (omega arith) (omega arith)))))
+
+pub piece_by : (w : Text) (r : Option ℕ) → (r ≡ None → (i : ℕ) → i + 1 < length w → get_or w i 0 ≡ 58 → get_or w (i + 1) 0 ≡ 58 → ⊥)
+    → ((k : ℕ) → r ≡ Some k → (k + 1 < length w) × (get_or w k 0 ≡ 58) × (get_or w (k + 1) 0 ≡ 58))
+    → ((k : ℕ) → r ≡ Some k → (i : ℕ) → i < k → get_or w i 0 ≡ 58 → get_or w (i + 1) 0 ≡ 58 → ⊥) → unwrap_or r (length w) ≡ piece_length w
+piece_by w None none here before = sym (no_cut w (λ i j s l x y. none refl i (omega arith) x (ap (λ h. get_or w h 0) (sym s) ∙ y)))
+piece_by w (Some k) none here before =
+    let h = here k refl in
+    sym (first_cut w k (k + 1) refl h.0 h.1 h.2 (λ i j s l x y. before k refl i l x (ap (λ n. get_or w n 0) (sym s) ∙ y)))
 
 pub split_some : (w : Text) → (q : Text) × (qs : List Text) × (split w ≡ q ∷ qs)
 split_some [] = ([], [], refl)
@@ -67,36 +80,40 @@ piece_fits (b ∷ c ∷ t) =
     (λ e. rw e (omega arith))
     (λ e. let k = piece_fits (c ∷ t) in rw e (omega arith))
 
-first_false : (p : Text) (ps : List Text) → identifier p ≡ false → identifiers (p ∷ ps) ≡ false
-first_false p [] e = e
-first_false p (q ∷ ps) e = rw e
+-- a first piece that is not all has a separator behind it
+more_is : (t : Text) (n : ℕ) → n ≡ piece_length t → (n ≡ length t → ⊥) → (n + 2 ≤ length t) × (split t ≡ take n t ∷ split (drop (n + 2) t))
+more_is t n is other =
+    let fits = piece_fits t in
+    let more = more_pieces t (omega arith) in
+    let two : suc (suc (piece_length t)) ≡ n + 2 = omega arith in
+    (let r = more.room in omega arith, more.first ∙ ap (λ k. take k t ∷ split (drop (suc (suc (piece_length t))) t)) (sym is) ∙ ap (λ k. take n t ∷ split (drop k t)) two)
 
-more_true : (p q : Text) (qs ps : List Text) → ps ≡ q ∷ qs → identifier p ≡ true → identifiers (p ∷ ps) ≡ identifiers ps
-more_true p q qs ps s e = rw (s, e)
+-- without room for a separator, the first piece is all
+by_room : (t : Text) (n : ℕ) → n ≡ piece_length t → length t < n + 2 → n ≡ length t
+by_room t n is h =
+    let fits = piece_fits t in
+    ⊎_elim
+    (λ e. e)
+    (λ e. let room = (more_is t n is e).0 in absurd (omega arith))
+    (cases_eq n (length t))
 
--- one turn: `v` is what is left of the word, and its first piece has n bytes
-module _ (v : Text) (n : ℕ) (is : n ≡ piece_length v) where
-  pub last_is : n ≡ length v → split v ≡ take (n - 0) v ∷ []
-  last_is h =
-      let k : length v ≤ n - 0 = omega arith in
-      last_piece v (sym is ∙ h) ∙ ap (λ p. p ∷ []) (sym (take_all (n - 0) v k))
+-- the first piece of a text, of n bytes, and what `get` finds behind the separator
+pub piece_given : (t : Text) (n : ℕ) (rest : Option (Bor Text)) → n ≡ piece_length t
+    → MatchOption rest ((length t < n + 2) ⊎ (length t < length t)) (λ x. (n + 2 ≤ length t) × (length t ≤ length t) × (x.now ≡ slice_range t (n + 2) (length t)) × (length x.now + (n + 2) ≡ length t))
+    → split t ≡ take n t ∷ pieces_of (option_map (λ x. x.now) rest)
+piece_given t n None is (inr h) = absurd (omega arith)
+piece_given t n None is (inl h) =
+    let whole : n ≡ length t = by_room t n is h in
+    last_piece t (sym is ∙ whole) ∙ ap (λ (b : Text). b ∷ []) (sym (take_all n t (omega arith)))
+piece_given t n (Some x) is h =
+    let behind : x.now ≡ drop (n + 2) t = h.2 ∙ take_rest t (n + 2) in
+    (more_is t n is (λ e. omega arith)).1 ∙ ap (λ (r : Text). take n t ∷ split r) (sym behind)
 
-  pub more_is : (n ≡ length v → ⊥) → (n + 2 ≤ length v) × (split v ≡ take (n - 0) v ∷ split (drop (n + 2) v))
-  more_is h =
-      let f = piece_fits v in
-      let k : piece_length v < length v = omega arith in
-      let m = more_pieces v k in
-      let a : piece_length v ≡ n - 0 = omega arith in
-      let b : suc (suc (piece_length v)) ≡ n + 2 = omega arith in
-      (let r = m.room in omega arith, m.first ∙ ap (λ j. take j v ∷ split (drop (suc (suc (piece_length v))) v)) a ∙ ap (λ j. take (n - 0) v ∷ split (drop j v)) b)
+-- a word is well formed if all its pieces are identifiers, since there is one
 
-  pub formed_last : n ≡ length v → well_formed v ≡ identifier (take (n - 0) v)
-  formed_last h = ap identifiers (last_is h)
+all_named : (p : Text) (ps : List Text) → list_all identifier (p ∷ ps) ≡ identifiers (p ∷ ps)
+all_named p [] = either_way (identifier p) (λ e. rw e refl) (λ e. rw e refl)
+all_named p (q ∷ ps) = ap (λ b. identifier p && b) (all_named q ps)
 
-  pub formed_not : identifier (take (n - 0) v) ≡ false → well_formed v ≡ false
-  formed_not e = ⊎_elim (λ h. formed_last h ∙ e) (λ h. ap identifiers (more_is h).1 ∙ first_false (take (n - 0) v) (split (drop (n + 2) v)) e) (cases_eq n (length v))
-
-  pub formed_more : (n ≡ length v → ⊥) → identifier (take (n - 0) v) ≡ true → well_formed v ≡ well_formed (drop (n + 2) v)
-  formed_more h e =
-      let s = split_some (drop (n + 2) v) in
-      ap identifiers (more_is h).1 ∙ more_true (take (n - 0) v) s.0 s.1 (split (drop (n + 2) v)) s.2 e
+pub all_formed : (w : Text) → list_all identifier (split w) ≡ well_formed w
+all_formed w = let s = split_some w in rw s.2 (all_named s.0 s.1)

@@ -6,3 +6,4 @@ pub mod Line
 pub mod Lines
 pub mod Dashes
 pub mod Pieces
+pub mod Left

@@ -3,9 +3,8 @@ ghost use Rattle.std.specs.Prelude.{◌≡◌, codes};
 ghost use Rattle.std.specs.Str.{bytes_eq};
 ghost use Rattle.text.specs.Dashes.{TakenApart};
 
-use crate::span::texts::same;
-
 // A word as two dashes, or one where it does not start with two, and the rest.
+// Kept: three cases that each say something of the word, and no value that may be missing.
 pub enum Dashes<'a> {
     Two(&'a [u8]),
     One(&'a [u8]),
@@ -26,19 +25,19 @@ pub fn take_apart(word: &[u8]) -> Dashes<'_>
 pub fn is_end_mark(word: &[u8]) -> bool
     ensures { result ≡ bytes_eq word.now (codes "--") }
 {
-    same(word, b"--")
+    matches!(word, b"--")
 }
 
 // The separator between the names of a path.
 pub fn is_separator(bytes: &[u8]) -> bool
     ensures { result ≡ bytes_eq bytes.now (codes "::") }
 {
-    same(bytes, b"::")
+    matches!(bytes, b"::")
 }
 
 // The text that a flag takes.
 pub fn is_true(text: &[u8]) -> bool
     ensures { result ≡ bytes_eq text.now (codes "true") }
 {
-    same(text, b"true")
+    matches!(text, b"true")
 }

@@ -13,6 +13,7 @@ pub const LINE_BYTES: usize = 1024;
 pub const LINE_WORDS: usize = 128;
 
 // A line within the limits: its bytes, and its words as a table of places in them.
+// Kept: tables with a length beside, since a line is `Copy`, which the library's fixed vector is not.
 #[derive(Clone, Copy)]
 pub struct Line {
     bytes: [u8; 1024],

@@ -1,16 +1,16 @@
+// Parts of rows, cut short where the rows end.
 ghost use Rattle.std.specs.Prelude.{◌≡◌, take, drop};
+
+// The first rows, as many as there are.
+pub fn front<T>(rows: &[T], len: usize) -> &[T]
+    ensures { result.now ≡ take len rows.now }
+{
+    rows.get(..len).unwrap_or(rows)
+}
 
 // So many rows from a place on, or as many as there are.
 pub fn part<T>(rows: &[T], start: usize, len: usize) -> &[T]
     ensures { result.now ≡ take len (drop start rows.now) }
 {
-    if start > rows.len() {
-        return &rows[0..0];
-    }
-    let rest = &rows[start..];
-    if len > rest.len() {
-        rest
-    } else {
-        &rest[0..len]
-    }
+    front(rows.get(start..).unwrap_or_default(), len)
 }

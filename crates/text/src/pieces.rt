@@ -1,6 +1,8 @@
 ghost use Rattle.std.specs.Prelude.{◌≡◌, ◌≤◌, List, length, Decides};
+ghost use Rattle.std.specs.Iterator.{YieldsFirstBy, item_count};
 ghost use Rattle.text.specs.Identifier.{Text};
-ghost use Rattle.text.specs.Pieces.{Pieces, Unclosed, has_colon, opens, piece_length, well_formed, unclosed};
+ghost use Rattle.text.specs.Pieces.{Pieces, Unclosed, has_colon, piece_length, well_formed, unclosed};
+ghost use Rattle.text.specs.Left.{pieces_left};
 
 use crate::identifier::is_identifier;
 
@@ -8,19 +10,7 @@ use crate::identifier::is_identifier;
 pub fn has_colon(word: &[u8]) -> bool
     ensures { result ≡ has_colon word.now }
 {
-    for b in word {
-        if *b == b':' {
-            return true;
-        }
-    }
-    false
-}
-
-// Whether a separator stands here.
-fn starts_piece(rest: &[u8]) -> bool
-    ensures { result ≡ opens rest.now }
-{
-    rest.starts_with(b"::")
+    word.contains(&b':')
 }
 
 // How long the first piece of a word is: up to the first separator, or to the end.
@@ -28,14 +18,30 @@ pub fn piece_length(word: &[u8]) -> usize
     ensures value { result ≡ piece_length word.now }
     ensures within { result ≤ length word.now }
 {
-    let mut at = 0;
-    while at < word.len() {
-        if starts_piece(&word[at..]) {
-            return at;
-        }
-        at += 1;
+    word.windows(2)
+        .position(|pair| matches!(pair, b"::"))
+        .unwrap_or(word.len())
+}
+
+// The pieces that are left of a word: what stands behind the last separator that was passed, or nothing.
+#[derive(Drop)]
+pub struct Split<'a> {
+    pub rest: Option<&'a [u8]>,
+}
+
+impl<'a> Iterator for Split<'a> {
+    type Item = &'a [u8];
+
+    ghost next_gives = { YieldsFirstBy (λ piece. piece.now) pieces_left };
+
+    ghost remaining = { item_count pieces_left };
+
+    fn next(&mut self) -> Option<&'a [u8]> {
+        let text = self.rest?;
+        let len = piece_length(text);
+        self.rest = text.get(len + 2..);
+        Some(&text[..len])
     }
-    at
 }
 
 // Whether every piece of a word is an identifier.
@@ -43,18 +49,7 @@ pub fn is_well_formed(word: &[u8]) -> bool
     ensures value { result ≡ well_formed word.now }
     ensures means { Decides result ((pieces : List Text) × Pieces word.now pieces) }
 {
-    let mut at = 0;
-    loop {
-        let rest = &word[at..];
-        let len = piece_length(rest);
-        if !is_identifier(&rest[0..len]) {
-            return false;
-        }
-        if len == rest.len() {
-            return true;
-        }
-        at += len + 2;
-    }
+    Split { rest: Some(word) }.all(is_identifier)
 }
 
 // A word without one closing separator.
@@ -62,8 +57,5 @@ pub fn without_closing(word: &[u8]) -> &[u8]
     ensures value { result.now ≡ unclosed word.now }
     ensures means { Unclosed word.now result.now }
 {
-    match word.strip_suffix(b"::") {
-        Some(front) => front,
-        None => word,
-    }
+    word.strip_suffix(b"::").unwrap_or(word)
 }

@@ -1,11 +1,12 @@
 // UTF-8 by RFC 3629: the length that a lead byte announces, and the bytes that may follow it.
-ghost use Rattle.std.specs.Prelude.{◌≡◌, ◌≤◌, length, Decides};
-ghost use Rattle.text.specs.Lead.{announced as announced_by, tail, second, front};
+ghost use Rattle.std.specs.Prelude.{◌≡◌, ◌<◌, ◌≤◌, length, Decides, SomeIff, IfSome};
+ghost use Rattle.text.specs.Lead.{announced as announced_by, tail, second, followed, front};
 ghost use Rattle.text.specs.Utf8.{Utf8};
 
 use crate::lengths::LENGTHS;
 
 // The length of the character that a lead byte announces, or 0.
+// Kept: 0 stands for none in this table, since options in a table of 256 bytes are no plainer; what is told outside is an option.
 fn announced(lead: u8) -> u8
     ensures { result ≡ announced_by lead }
 {
@@ -32,40 +33,40 @@ fn may_follow(lead: u8, b: u8) -> bool
         0xF4 => 0x8F,
         _ => 0xBF,
     };
-    low <= b && b <= high
+    (low..=high).contains(&b)
 }
 
-// The length of the character at the front, or 0 where none stands there.
-pub fn char_length(bytes: &[u8]) -> usize
-    ensures value { result ≡ front bytes.now }
-    ensures within { result ≤ length bytes.now }
+// Whether the bytes that a lead byte announces stand at the front.
+fn is_followed(len: u8, bytes: &[u8]) -> bool
+    requires { 0 < length bytes.now }
+    ensures { result ≡ followed len bytes.now }
 {
-    if bytes.is_empty() {
-        return 0;
-    }
-    let lead = bytes[0];
-    let room = bytes.len();
-    let fits = match announced(lead) {
-        1 => return 1,
-        2 => room >= 2 && may_follow(lead, bytes[1]),
-        3 => room >= 3 && may_follow(lead, bytes[1]) && is_tail(bytes[2]),
-        4 => room >= 4 && may_follow(lead, bytes[1]) && is_tail(bytes[2]) && is_tail(bytes[3]),
+    match *bytes {
+        [_, ..] if len == 1 => true,
+        [lead, b, ..] if len == 2 => may_follow(lead, b),
+        [lead, b, c, ..] if len == 3 => may_follow(lead, b) && is_tail(c),
+        [lead, b, c, d, ..] if len == 4 => may_follow(lead, b) && is_tail(c) && is_tail(d),
         _ => false,
-    };
-    if fits { announced(lead) as usize } else { 0 }
+    }
+}
+
+// The length of the character at the front: none where no character stands there.
+pub fn char_length(bytes: &[u8]) -> Option<usize>
+    ensures value { SomeIff result (0 < front bytes.now) (front bytes.now) }
+    ensures within { IfSome result (λ n. n ≤ length bytes.now) }
+{
+    let len = announced(*bytes.first()?);
+    is_followed(len, bytes).then_some(len as usize)
 }
 
 // Whether the bytes are characters end to end.
+// Kept: a walk by `char_length`, which is proved to be the grammar of RFC 3629; the library's `from_utf8` speaks of its own encoding, and no lemma leads from one to the other.
 pub fn is_utf8(bytes: &[u8]) -> bool
     ensures { Decides result (Utf8 bytes.now) }
 {
-    let mut at = 0;
-    while at < bytes.len() {
-        let step = char_length(&bytes[at..]);
-        if step == 0 {
-            return false;
-        }
-        at += step;
+    let mut rest = bytes;
+    while let Some(len) = char_length(rest) {
+        rest = &rest[len..];
     }
-    true
+    rest.is_empty()
 }

@@ -1,5 +1,6 @@
 -- The parts of each key, and the key of each row over an image's bytes. Assumes nothing.
 use Rattle.std.specs.Prelude.{ℕ, List, [], ◌∷◌}
+use Rattle.register.specs.Kinds.{kind_number}
 use Rattle.text.specs.Spans.{text_at}
 use Rattle.tree.specs.declared.keys.NameKey.{NameKey}
 use Rattle.tree.specs.declared.keys.LongKey.{LongKey}
@@ -10,10 +11,10 @@ use Rattle.tree.specs.declared.rows.LetterRow.{LetterRow}
 
 -- module, kind and the text's bytes
 abbrev pub name_parts : NameKey → List ℕ
-name_parts k = k.«module» ∷ k.kind ∷ k.text.now
+name_parts k = k.«module» ∷ kind_number k.kind ∷ k.text.now
 
 abbrev pub name_key : List ℕ → NameRow → List ℕ
-name_key image row = row.«module» ∷ row.kind ∷ text_at image row.text
+name_key image row = row.«module» ∷ kind_number row.kind ∷ text_at image row.text
 
 -- recipe and the text's bytes
 abbrev pub long_parts : LongKey → List ℕ

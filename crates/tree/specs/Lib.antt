@@ -1,3 +1,4 @@
 pub mod Tree
 pub mod Rows
+pub mod KindOrder
 pub mod Keys

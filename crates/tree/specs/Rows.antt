@@ -2,6 +2,8 @@
 use Rattle.std.specs.Prelude.{ℕ, zero, suc, List, map, take, Some, None, Option}
 use Rattle.std.specs.Option.{option_map}
 use Rattle.text.specs.Identifier.{Text}
+use Rattle.register.specs.Kinds.{kind_number}
+use Rattle.register.specs.ParameterNumber.{parameter_number}
 use Rattle.text.specs.Spans.{text_at, texts_at}
 use Rattle.tree.specs.Tree.{Module, Name, Parameter, Range, Pattern}
 use Rattle.tree.specs.declared.rows.ModuleRow.{ModuleRow}
@@ -15,7 +17,7 @@ abbrev pub module_at : List ℕ → ModuleRow → Module
 module_at image r = record { default = r.default }
 
 abbrev pub name_at : List ℕ → NameRow → Name
-name_at image r = record { within = r.«module»; kind = r.kind; text = text_at image r.text; number = r.number }
+name_at image r = record { within = r.«module»; kind = kind_number r.kind; text = text_at image r.text; number = r.number }
 
 abbrev pub parameter_at : List ℕ → ParameterRow → Parameter
 parameter_at image p = record {
@@ -23,7 +25,7 @@ parameter_at image p = record {
   flag = p.flag;
   multiple = p.multiple;
   value = p.value;
-  kind = p.kind;
+  kind = parameter_number p.kind;
   long = option_map (text_at image) p.long;
   letter = p.letter;
   min = p.min;

@@ -1,7 +1,5 @@
 // The tree of modules, names, recipes, parameters and patterns, as rows over an image's bytes.
 #![tactic(auto)]
 
-pub mod front;
 pub mod keys;
 pub mod rows;
-pub mod tables;

@@ -1,4 +1,6 @@
 // The rows of a tree. Texts are places in the image's bytes.
+use register::kind::Kind;
+use register::parameter::ParameterKind;
 use text::span::Span;
 
 // A module: its default recipe.
@@ -11,7 +13,7 @@ pub struct ModuleRow {
 #[derive(Clone, Copy)]
 pub struct NameRow {
     pub module: u16,
-    pub kind: u8,
+    pub kind: Kind,
     pub text: Span,
     pub number: Option<u16>,
 }
@@ -22,8 +24,7 @@ pub struct ParameterRow {
     pub flag: bool,
     pub multiple: bool,
     pub value: bool,
-    // 1 Plus, 2 Star, else Singular
-    pub kind: Option<u8>,
+    pub kind: ParameterKind,
     pub long: Option<Span>,
     pub letter: Option<u32>,
     pub min: Option<u32>,
@@ -31,6 +32,21 @@ pub struct ParameterRow {
     pub pattern: Option<u8>,
 }
 
+// A row without a parameter.
+pub const NO_PARAMETER: ParameterRow = ParameterRow {
+    default: None,
+    flag: false,
+    multiple: false,
+    value: false,
+    kind: ParameterKind::Singular,
+    long: None,
+    letter: None,
+    min: None,
+    max: None,
+    pattern: None,
+};
+
+// Kept: a row is fixed memory, and all zero once an image is refused; so a count stands beside the array, here and in a pattern; and 0 says that the field is absent, as the zero row has none.
 #[derive(Clone, Copy)]
 pub struct RecipeRow {
     pub count: usize,
@@ -61,6 +77,7 @@ pub struct LongRow {
 }
 
 // A letter of a recipe's parameter, and the parameter's place.
+// Kept: two structs, since one over both kinds of names keeps an impl of `Keyed` and of `Listing` for each, and saves this struct alone.
 #[derive(Clone, Copy)]
 pub struct LetterRow {
     pub recipe: u16,

@@ -1,11 +1,11 @@
 -- A search in rows that ascend answers by the tree. Assumes nothing.
-use Rattle.std.proofs.Common.{◌≡◌, ℕ, suc, ◌+◌, ◌<◌, ◌≤◌, Bool, true, false, cond, ◌&&◌, eqb, List, [], ◌∷◌, map, length, get_or, drop, is_some, IfSome, Some, None, Decides, Option, sym, refl, ap, ◌∙◌, arith}
-use Rattle.std.specs.Option.{option_map, option_flatten}
-use Rattle.std.specs.List.{slice_get}
+use Rattle.std.proofs.Common.{◌≡◌, ℕ, suc, ◌<◌, Bool, true, false, cond, ◌&&◌, ◌||◌, eqb, List, [], ◌∷◌, map, length, get_or, is_some, Some, None, Decides, Option, Bor, sym, refl, ap, ◌∙◌, arith}
+use Rattle.std.specs.Option.{option_map}
+use Rattle.std.specs.List.{slice_get, list_any}
 use Rattle.std.specs.Str.{bytes_eq}
-use Rattle.std.proofs.lemmas.Option.{slice_get-map, slice_get_within}
+use Rattle.std.specs.Slice.{IsItemAt}
+use Rattle.std.proofs.lemmas.Option.{slice_get-map, slice_get_within, slice_get_past}
 use Rattle.std.proofs.lemmas.Slice.Eq.{bytes_eq-Decides}
-use Rattle.std.proofs.lemmas.List.{at_drop_more, at_drop_all}
 use Rattle.std.proofs.lemmas.Option.{slice_get-get_or}
 use Rattle.std.proofs.lemmas.Bool.{and_parts, and_from, eqb-true, eq-eqb}
 use Rattle.text.specs.Identifier.{Text}
@@ -18,12 +18,11 @@ use Rattle.tree.specs.declared.rows.NameRow.{NameRow}
 use Rattle.tree.specs.declared.rows.RecipeRow.{RecipeRow}
 use Rattle.tree.specs.declared.rows.LongRow.{LongRow}
 use Rattle.tree.specs.declared.rows.LetterRow.{LetterRow}
+use Rattle.register.specs.Kinds.{kind_number}
 use Rattle.register.specs.Meaning.{ParameterMeaning}
 use Rattle.register.specs.Parameters.{place_of, Passes, AtMostOne, Apart, has_long_name, has_letter_code, long_at, letter_at, long_place, letter_place, is_text, is_code}
 use Rattle.register.proofs.Places.{place_none, place_only, text_has, code_has, long_passes, passes_long, letter_passes, passes_letter}
-use Rattle.register.specs.Kinds.{labelled}
-use Rattle.register.specs.declared.kind.Kind.{Kind}
-use Rattle.tree_register.specs.Names.{is_named, leads, led_from}
+use Rattle.tree_register.specs.Names.{is_named}
 use Rattle.tree_register.specs.Derived.{LongsRight, LongsTold, LettersRight, LettersTold, parameters_in}
 use Rattle.tree_register.specs.Laws.{Told, long_told_lem, letter_told_lem, rows_apart}
 
@@ -35,25 +34,20 @@ nth_maps {X} f g xs i = slice_get-map g (map f xs) i ∙ ap (option_map g) (slic
     at None = refl
     at (Some x) = refl
 
--- whether some item passes a test, item by item
-module _ {X Y : Type 0} (f : X → Y) (test : Y → Bool) (xs : List X) (i : ℕ) where
-  some_by : (b : Bool) (o : Option ℕ) → b ≡ false → is_some (cond b (Some 0) (option_map suc o)) ≡ is_some o
-  some_by true o e = let z : ◌≡◌ {A = ℕ} 0 1 = cc in absurd (omega arith)
-  some_by false None e = refl
-  some_by false (Some j) e = refl
+-- what a row that is got at a place says
+pub got_says : {X Y : Type 0} (f : X → Y) (xs : List X) (i : ℕ) (r : Option (Bor X)) → IsItemAt xs i r → option_map (λ x. f x.now) r ≡ option_map f (slice_get xs i)
+got_says f xs i None h = ap (option_map f) (sym (slice_get_past xs i h.3))
+got_says f xs i (Some x) h = ap (option_map f) (ap (λ w. Some w) (h.3.1 x.now) ∙ sym (slice_get-get_or xs i x.now h.3.0))
 
-  pub some_here : (d : X) → i < length xs → test (f (get_or xs i d)) ≡ true → is_some (place_of test (map f (drop i xs))) ≡ true
-  some_here d w e =
-      at_drop_more (λ l. is_some (place_of test (map f l))) xs i d w
-      ∙ ap (λ b. is_some (cond b (Some 0) (option_map suc (place_of test (map f (drop (i + 1) xs)))))) e
-
-  pub some_later : (d : X) → i < length xs → test (f (get_or xs i d)) ≡ false → is_some (place_of test (map f (drop i xs))) ≡ is_some (place_of test (map f (drop (i + 1) xs)))
-  some_later d w e =
-      at_drop_more (λ l. is_some (place_of test (map f l))) xs i d w
-      ∙ some_by (test (f (get_or xs i d))) (place_of test (map f (drop (i + 1) xs))) e
-
-  pub some_nowhere : length xs ≤ i → is_some (place_of test (map f (drop i xs))) ≡ false
-  some_nowhere past = at_drop_all (λ l. is_some (place_of test (map f l))) xs i past
+-- some item passes a test exactly where the first that passes it has a place
+pub some_place : {X Y : Type 0} (f : X → Y) (test : Y → Bool) (xs : List X) → list_any (λ x. test (f x)) xs ≡ is_some (place_of test (map f xs))
+some_place f test [] = refl
+some_place f test (x ∷ xs) = at (test (f x)) (place_of test (map f xs)) (some_place f test xs)
+  where
+    at : (b : Bool) (o : Option ℕ) → list_any (λ x. test (f x)) xs ≡ is_some o → (b || list_any (λ x. test (f x)) xs) ≡ is_some (cond b (Some 0) (option_map suc o))
+    at true o h = refl
+    at false None h = h
+    at false (Some i) h = h
 
 -- the place of a key is the place of what a row tells, where a test on that decides the key
 module _ {X Y : Type 0} (key : X → List ℕ) (f : X → Y) (test : Y → Bool) (k : List ℕ) (decides : (x : X) → Decides (test (f x)) (key x ≡ k)) (xs : List X) where
@@ -84,32 +78,21 @@ name_decides image m kind t x = (to, from)
 
     to : is_named m kind t (name_at image x) ≡ true → name_key image x ≡ m ∷ kind ∷ t
     to h =
-        let one : (eqb x.«module» m && eqb x.kind kind ≡ true) × (bytes_eq here t ≡ true) = and_parts _ _ h in
-        let two : (eqb x.«module» m ≡ true) × (eqb x.kind kind ≡ true) = and_parts _ _ one.0 in
+        let one : (eqb x.«module» m && eqb (kind_number x.kind) kind ≡ true) × (bytes_eq here t ≡ true) = and_parts _ _ h in
+        let two : (eqb x.«module» m ≡ true) × (eqb (kind_number x.kind) kind ≡ true) = and_parts _ _ one.0 in
         let a : x.«module» ≡ m = eqb-true _ _ two.0 in
-        let b : x.kind ≡ kind = eqb-true _ _ two.1 in
+        let b : kind_number x.kind ≡ kind = eqb-true _ _ two.1 in
         let c : here ≡ t = (bytes_eq-Decides here t).0 one.1 in
         cc
 
     from : name_key image x ≡ m ∷ kind ∷ t → is_named m kind t (name_at image x) ≡ true
     from h =
-        let a : x.«module» ≡ m = cc in let b : x.kind ≡ kind = cc in let c : here ≡ t = cc in
+        let a : x.«module» ≡ m = cc in let b : kind_number x.kind ≡ kind = cc in let c : here ≡ t = cc in
         and_from _ _ (and_from _ _ (eq-eqb _ _ a) (eq-eqb _ _ b)) ((bytes_eq-Decides here t).1 c)
-
--- a place that is found is within the rows
-pub found_within : (image : List ℕ) (names : List NameRow) (k : List ℕ) (o : Option ℕ) → Finds (name_key image) names k o → IfSome o (λ i. i < length names)
-found_within image names k None h = tt
-found_within image names k (Some i) h = h.0
 
 pub name_found : (image : List ℕ) (names : List NameRow) (m kind : ℕ) (t : Text) → Ascending (name_key image) names → (o : Option ℕ) → Finds (name_key image) names (m ∷ kind ∷ t) o → o ≡ place_of (is_named m kind t) (map (name_at image) names)
 name_found image names m kind t up o h =
     found_place (name_key image) (name_at image) (is_named m kind t) (m ∷ kind ∷ t) (name_decides image m kind t) names up o h
-
--- what is found of the name row at a place: the place for kinds with labels, else the row's number
-pub led_at : (image : List ℕ) (names : List NameRow) (kind : Kind) (place : ℕ) (d : NameRow) (b : Bool) → labelled kind ≡ b → place < length names → led_from (map (name_at image) names) kind (Some place) ≡ cond b (Some place) (get_or names place d).number
-led_at image names kind place d b is w =
-    ap (λ o. option_flatten (option_map (leads kind place) o)) (slice_get-map (name_at image) names place ∙ ap (option_map (name_at image)) (slice_get-get_or names place d w))
-    ∙ ap (λ l. cond l (Some place) (get_or names place d).number) is
 
 -- the place that the row with a key tells is the place of the parameter that passes a test
 look_up : {X : Type 0} (key : X → List ℕ) (place : X → ℕ) (xs : List X) (k : List ℕ) (test : ParameterMeaning → Bool) (ps : List ParameterMeaning)

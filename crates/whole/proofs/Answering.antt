@@ -1,12 +1,18 @@
 -- The answer for long names and letters together. Assumes nothing.
-use Rattle.std.proofs.Common.{◌≡◌, ℕ, ◌<◌, ◌≤◌, min, ◌⊎◌, List, [], ◌∷◌, length, take, Some, Ok, Err, Option, Result, sym, refl, ap, ◌∙◌, subst, inl, inr, arith, MatchResult}
+use Rattle.std.proofs.Common.{◌≡◌, ℕ, ◌<◌, ◌≤◌, min, ◌⊎◌, List, [], ◌∷◌, length, take, Some, Ok, Err, Option, Result, sym, ap, ◌∙◌, subst, inl, inr, arith, MatchResult}
 use Rattle.std.specs.Option.{option_map}
+use Rattle.std.specs.Result.{IsErrAnd}
+use Rattle.std.proofs.lemmas.Result.{MatchResult-at_ok}
+use Rattle.refusal.specs.declared.Refusal.{Refusal}
+use Rattle.refusal.specs.declared.Refusal.TheVariants.{SharedName}
 use Rattle.tree.specs.Tree.{Parameter}
 use Rattle.tree.specs.declared.rows.LongRow.{LongRow}
 use Rattle.tree.specs.declared.rows.LetterRow.{LetterRow}
 use Rattle.whole.specs.Places.{Stands}
 use Rattle.whole.specs.Shared.{Named, Distinct, Apart, FirstShared}
-use Rattle.whole.specs.Derived.{SaysLong, SaysLetter, LongsListed, LettersListed, NamesDerived}
+use Rattle.whole.specs.Derived.{SaysLong, SaysLetter, LongsListed, LettersListed, NamesListed, NamesDerived}
+use Rattle.whole.specs.declared.filled.Filled.{Filled}
+use Rattle.whole.specs.declared.derive.NameTwice.{NameTwice}
 use Rattle.whole.specs.Entries.{entry, long_entry, letter_entry, long_name, letter_name, Says, AllListed, AllFilled, FirstTwice, joined}
 use Rattle.whole.proofs.Places.{stands_within, stands_weaker, stands_with, stands_some, among_weaker}
 use Rattle.whole.proofs.Stepping.{mapped_some}
@@ -91,7 +97,10 @@ module _ (recipes : List (List Parameter)) where
   which r s = grind arith
 
   module _ (image : List ℕ) (longs longs' : List LongRow) (letters letters' : List LetterRow) (as_long : length longs' ≡ length longs) (as-long' : length letters' ≡ length letters) where
-    pub answered : (long letter : Result ℕ ℕ) → MatchResult long (λ m. AllFilled (long_entry image) long_name recipes longs m longs') (FirstTwice long_name recipes) → MatchResult letter (λ m. AllFilled (letter_entry image) letter_name recipes letters m letters') (FirstTwice letter_name recipes) → NamesDerived image recipes longs letters (joined long letter) longs' letters'
+    abbrev Answers : Result Filled NameTwice → Type 0
+    Answers answer = MatchResult answer (λ filled. NamesListed image recipes longs letters filled longs' letters') (λ t. FirstShared recipes t.recipe)
+
+    answered : (long letter : Result ℕ NameTwice) → MatchResult long (λ m. AllFilled (long_entry image) long_name recipes longs m longs') (λ t. FirstTwice long_name recipes t.recipe) → MatchResult letter (λ m. AllFilled (letter_entry image) letter_name recipes letters m letters') (λ t. FirstTwice letter_name recipes t.recipe) → Answers (joined long letter)
     answered (Ok m) (Ok n) a b = record {
       apart = λ r h. stands_apart recipes r (a.holds.distinct r h) (b.holds.distinct r h);
       by_long = longs_listed image recipes (take m longs') a.holds;
@@ -99,6 +108,16 @@ module _ (recipes : List (List Parameter)) where
       longs_filled = record { within = omega (arith, a.within); behind = a.behind };
       letters_filled = record { within = omega (arith, b.within); behind = b.behind };
     }
-    answered (Ok m) (Err s) a b = (s, refl, shared_letter s b (λ k h. let w = twice_within letter_name s b in a.holds.distinct k (omega arith)))
-    answered (Err r) (Ok n) a b = (r, refl, shared_long r a (λ k h. let w = twice_within long_name r a in b.holds.distinct k (omega arith)))
-    answered (Err r) (Err s) a b = (min r s, refl, lower r s a b (which r s))
+    answered (Ok m) (Err s) a b = shared_letter s.recipe b (λ k h. let w = twice_within letter_name s.recipe b in a.holds.distinct k (omega arith))
+    answered (Err r) (Ok n) a b = shared_long r.recipe a (λ k h. let w = twice_within long_name r.recipe a in b.holds.distinct k (omega arith))
+    answered (Err r) (Err s) a b = lower r.recipe s.recipe a b (which r.recipe s.recipe)
+
+    -- the answer and the refusal of both
+    pub both_listed : (long letter : Result ℕ NameTwice) → MatchResult long (λ m. AllFilled (long_entry image) long_name recipes longs m longs') (λ t. FirstTwice long_name recipes t.recipe) → MatchResult letter (λ m. AllFilled (letter_entry image) letter_name recipes letters m letters') (λ t. FirstTwice letter_name recipes t.recipe)
+        → (filled : Filled) → joined long letter ≡ Ok filled → NamesListed image recipes longs letters filled longs' letters'
+    both_listed long letter a b filled e = MatchResult-at_ok (λ f. NamesListed image recipes longs letters f longs' letters') (λ t. FirstShared recipes t.recipe) filled e (answered long letter a b)
+
+    pub one_shared : (long letter : Result ℕ NameTwice) → MatchResult long (λ m. AllFilled (long_entry image) long_name recipes longs m longs') (λ t. FirstTwice long_name recipes t.recipe) → MatchResult letter (λ m. AllFilled (letter_entry image) letter_name recipes letters m letters') (λ t. FirstTwice letter_name recipes t.recipe)
+        → (t : NameTwice) → joined long letter ≡ Err t → (r : Result Filled Refusal) → IsErrAnd r (λ refusal. refusal ≡ SharedName t.recipe) → NamesDerived image recipes longs letters r longs' letters'
+    one_shared long letter a b t e (Ok m) h = absurd h
+    one_shared long letter a b t e (Err refusal) h = (t.recipe, h, subst Answers e (answered long letter a b))

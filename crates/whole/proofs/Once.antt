@@ -1,74 +1,92 @@
--- A loop that looks for the one place where P holds. Assumes nothing.
-use Rattle.std.proofs.Common.{◌≡◌, ℕ, ◌+◌, ◌<◌, ◌≤◌, Bool, true, false, ◌⊎◌, List, map, length, Some, Decides, MatchBool, sym, refl, subst, inl, inr, true≢false, arith}
+-- How often a test passes, and where. Assumes nothing.
+use Rattle.std.proofs.Common.{◌≡◌, ℕ, zero, suc, ◌+◌, Bool, true, false, cond, List, [], ◌∷◌, map, Some, None, Option, Decides, ◌==◌, sym, refl, ap, ◌∙◌, true≢false, arith}
+use Rattle.std.specs.List.{count_by}
+use Rattle.std.proofs.lemmas.List.Sums.{sum_by-cons}
+use Rattle.std.proofs.lemmas.Bool.{and_parts, and_from, eqb-true, eq-eqb}
+use Rattle.register.specs.Kinds.{kind_number}
 use Rattle.tree.specs.Rows.{name_at}
 use Rattle.tree.specs.declared.rows.NameRow.{NameRow}
 use Rattle.whole.specs.Places.{Stands}
 use Rattle.whole.specs.Modules.{Leads, NamedOnce}
-use Rattle.whole.proofs.Places.{here_or_below, stands_within, stands_map, stands_unmap}
+use Rattle.whole.specs.Once.{is_number, leads_to}
+use Rattle.whole.proofs.Places.{stands_map, stands_unmap}
 
-module _ {A : Type 0} (P : A → Type 0) (xs : List A) where
-  -- exactly one place below i, or none
-  abbrev pub OneBelow : ℕ → Type 0
-  OneBelow i = (p : ℕ) × (p < i) × Stands P xs p × ((j : ℕ) → j < i → Stands P xs j → j ≡ p)
+module _ {A : Type 0} (test : A → Bool) where
+  abbrev Passes : List A → ℕ → Type 0
+  Passes = Stands (λ x. test x ≡ true)
 
-  abbrev pub NoneBelow : ℕ → Type 0
-  NoneBelow i = (j : ℕ) → j < i → Stands P xs j → ⊥
+  more : (x : A) (xs : List A) (b : Bool) → test x ≡ b → count_by test (x ∷ xs) ≡ cond b 1 0 + count_by test xs
+  more x xs b e = sum_by-cons (λ x. cond (test x) 1 0) x xs ∙ ap (λ t. cond t 1 0 + count_by test xs) e
 
-  abbrev pub Seen : Bool → ℕ → Type 0
-  Seen found i = MatchBool found (OneBelow i) (NoneBelow i)
+  fewer : (x : A) (xs : List A) (b : Bool) → test x ≡ b → count_by test (x ∷ xs) ≡ 0 → count_by test xs ≡ 0
+  fewer x xs true t e = let m = more x xs true t in absurd (omega (arith, e, m))
+  fewer x xs false t e = let m = more x xs false t in omega (arith, e, m)
 
-  pub seen_none : Seen false 0
-  seen_none j h k = absurd (omega arith)
+  -- the test passes nowhere
+  none : (xs : List A) → count_by test xs ≡ 0 → (i : ℕ) → Passes xs i → ⊥
+  none [] e i h = absurd h
+  none (x ∷ xs) e zero h = let m = more x xs true h in absurd (omega (arith, e, m))
+  none (x ∷ xs) e (suc i) h = none xs (fewer x xs (test x) refl e) i h
 
-  pub seen_other : (found : Bool) (i : ℕ) → (Stands P xs i → ⊥) → Seen found i → Seen found (i + 1)
-  seen_other true i n s = (s.0, omega (arith, s.1), s.2, λ j h k. from j k (here_or_below i j h))
-    where
-      from : (j : ℕ) → Stands P xs j → (j < i) ⊎ (j ≡ i) → j ≡ s.0
-      from j k (inl h) = s.3 j h k
-      from j k (inr e) = absurd (n (subst (Stands P xs) e k))
-  seen_other false i n s = λ j h k. from j k (here_or_below i j h)
-    where
-      from : (j : ℕ) → Stands P xs j → (j < i) ⊎ (j ≡ i) → ⊥
-      from j k (inl h) = s j h k
-      from j k (inr e) = n (subst (Stands P xs) e k)
+  first_not : (x : A) (xs : List A) (b : Bool) → test x ≡ b → (test x ≡ true → ⊥) → count_by test xs ≡ 0 → count_by test (x ∷ xs) ≡ 0
+  first_not x xs true t n z = absurd (n t)
+  first_not x xs false t n z = let m = more x xs false t in omega (arith, m, z)
 
-  pub seen_first : (i : ℕ) → Stands P xs i → NoneBelow i → OneBelow (i + 1)
-  seen_first i here s = (i, omega arith, here, λ j h k. from j k (here_or_below i j h))
-    where
-      from : (j : ℕ) → Stands P xs j → (j < i) ⊎ (j ≡ i) → j ≡ i
-      from j k (inl h) = absurd (s j h k)
-      from j k (inr e) = e
+  no_more : (xs : List A) → ((i : ℕ) → Passes xs i → ⊥) → count_by test xs ≡ 0
+  no_more [] n = refl
+  no_more (x ∷ xs) n = first_not x xs (test x) refl (n 0) (no_more xs (λ i h. n (suc i) h))
 
--- what a row of kind 0 with this number says
-abbrev pub LeadsRow : ℕ → NameRow → Type 0
-LeadsRow m row = (row.kind ≡ 0) × (row.number ≡ Some m)
+  -- it passes at one place alone
+  abbrev Alone : List A → Type 0
+  Alone xs = (i : ℕ) × Stands (λ x. test x ≡ true) xs i × ((j : ℕ) → Stands (λ x. test x ≡ true) xs j → j ≡ i)
 
-module _ (image : List ℕ) (rows : List NameRow) (m : ℕ) where
-  to_name : (j : ℕ) → Stands (LeadsRow m) rows j → Stands (Leads m) (map (name_at image) rows) j
-  to_name = stands_map (name_at image) (Leads m) (LeadsRow m) (λ x h. record { kind = h.0; number = h.1 }) rows
+  first_alone : (x : A) (xs : List A) → count_by test xs ≡ 0 → (j : ℕ) → Passes (x ∷ xs) j → j ≡ 0
+  first_alone x xs n zero h = refl
+  first_alone x xs n (suc j) h = absurd (none xs n j h)
 
-  to_row : (j : ℕ) → Stands (Leads m) (map (name_at image) rows) j → Stands (LeadsRow m) rows j
-  to_row = stands_unmap (name_at image) (Leads m) (LeadsRow m) (λ x h. (h.kind, h.number)) rows
+  later_alone : (x : A) (xs : List A) (w : Alone xs) → test x ≡ false → (j : ℕ) → Passes (x ∷ xs) j → j ≡ suc w.0
+  later_alone x xs w t zero h = absurd (true≢false (sym h ∙ t))
+  later_alone x xs w t (suc j) h = ap suc (w.2 j h)
 
-  pub once_from : (i : ℕ) → length rows ≤ i → OneBelow (LeadsRow m) rows i → NamedOnce (map (name_at image) rows) m
-  once_from i w s = record {
-    place = s.0;
-    there = to_name s.0 s.2;
-    only = λ j k. let h = to_row j k in let b = stands_within (LeadsRow m) rows j h in s.3 j (omega arith) h;
-  }
+  alone_from : (x : A) (xs : List A) (b : Bool) → test x ≡ b → count_by test (x ∷ xs) ≡ 1 → (count_by test xs ≡ 1 → Alone xs) → Alone (x ∷ xs)
+  alone_from x xs true t e f = let m = more x xs true t in (0, t, first_alone x xs (omega (arith, e, m)))
+  alone_from x xs false t e f = let m = more x xs false t in let w = f (omega (arith, e, m)) in (suc w.0, w.1, later_alone x xs w t)
 
-  pub not_once_none : (i : ℕ) → length rows ≤ i → NoneBelow (LeadsRow m) rows i → NamedOnce (map (name_at image) rows) m → ⊥
-  not_once_none i w s o = let h = to_row o.place o.there in let b = stands_within (LeadsRow m) rows o.place h in s o.place (omega arith) h
+  alone : (xs : List A) → count_by test xs ≡ 1 → Alone xs
+  alone [] e = let z : ◌≡◌ {A = ℕ} 0 1 = cc in absurd (omega arith)
+  alone (x ∷ xs) e = alone_from x xs (test x) refl e (alone xs)
 
-  -- a second place
-  pub not_once_twice : (i : ℕ) → Stands (LeadsRow m) rows i → OneBelow (LeadsRow m) rows i → NamedOnce (map (name_at image) rows) m → ⊥
-  not_once_twice i here s o =
-      let p = o.only i (to_name i here) in let q = o.only s.0 (to_name s.0 s.2) in
-      absurd (omega (arith, s.1))
+  counted_from : (x : A) (xs : List A) (b : Bool) → test x ≡ b → (test x ≡ true → ⊥) → count_by test xs ≡ 1 → count_by test (x ∷ xs) ≡ 1
+  counted_from x xs true t n e = absurd (n t)
+  counted_from x xs false t n e = let m = more x xs false t in omega (arith, m, e)
 
-  pub decided : (found : Bool) (i : ℕ) → length rows ≤ i → Seen (LeadsRow m) rows found i → Decides found (NamedOnce (map (name_at image) rows) m)
-  decided true i w s = (λ _. once_from i w s, λ _. refl)
-  decided false i w s = (λ e. absurd (true≢false (sym e)), λ o. absurd (not_once_none i w s o))
+  counted : (xs : List A) (i : ℕ) → Passes xs i → ((j : ℕ) → Passes xs j → j ≡ i) → count_by test xs ≡ 1
+  counted [] i h u = absurd h
+  counted (x ∷ xs) zero h u = let m = more x xs true h in let n = no_more xs (λ j k. let e = u (suc j) k in absurd (omega (arith, e))) in omega (arith, m, n)
+  counted (x ∷ xs) (suc i) h u = counted_from x xs (test x) refl (λ t. let e = u 0 t in absurd (omega (arith, e))) (counted xs i h (λ j k. let e = u (suc j) k in omega (arith, e)))
 
-  pub twice : (i : ℕ) → Stands (LeadsRow m) rows i → OneBelow (LeadsRow m) rows i → Decides false (NamedOnce (map (name_at image) rows) m)
-  twice i here s = (λ e. absurd (true≢false (sym e)), λ o. absurd (not_once_twice i here s o))
+module _ (m : ℕ) where
+  number_is : (o : Option ℕ) → is_number m o ≡ true → o ≡ Some m
+  number_is None e = absurd (true≢false (sym e))
+  number_is (Some n) e = ap (λ w. Some w) (eqb-true n m e)
+
+  is_it : (o : Option ℕ) → o ≡ Some m → is_number m o ≡ true
+  is_it None e = let z : ◌≡◌ {A = ℕ} 0 1 = cc in absurd (omega arith)
+  is_it (Some n) e = let same : n ≡ m = cc in eq-eqb n m same
+
+  module _ (image : List ℕ) (rows : List NameRow) where
+    to_name : (j : ℕ) → Stands (λ row. leads_to m row ≡ true) rows j → Stands (Leads m) (map (name_at image) rows) j
+    to_name = stands_map (name_at image) (Leads m) (λ row. leads_to m row ≡ true) (λ x h. let w = and_parts _ _ h in record { kind = eqb-true (kind_number x.kind) 0 w.0; number = number_is x.number w.1 }) rows
+
+    to_row : (j : ℕ) → Stands (Leads m) (map (name_at image) rows) j → Stands (λ row. leads_to m row ≡ true) rows j
+    to_row = stands_unmap (name_at image) (Leads m) (λ row. leads_to m row ≡ true) (λ x h. and_from _ _ (eq-eqb (kind_number x.kind) 0 h.kind) (is_it x.number h.number)) rows
+
+    -- exactly one row leads to the module
+    pub named_once : Decides (count_by (leads_to m) rows == 1) (NamedOnce (map (name_at image) rows) m)
+    named_once = (to, from)
+      where
+        to : (count_by (leads_to m) rows == 1) ≡ true → NamedOnce (map (name_at image) rows) m
+        to e = let w = alone (leads_to m) rows (eqb-true _ _ e) in record { place = w.0; there = to_name w.0 w.1; only = λ j k. w.2 j (to_row j k) }
+
+        from : NamedOnce (map (name_at image) rows) m → (count_by (leads_to m) rows == 1) ≡ true
+        from o = eq-eqb _ _ (counted (leads_to m) rows o.place (to_row o.place o.there) (λ j k. o.only j (to_name j k)))

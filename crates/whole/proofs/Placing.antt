@@ -1,50 +1,38 @@
 -- The place of a row among rows that ascend, and what they are with it. Assumes nothing.
-use Rattle.std.proofs.Common.{◌≡◌, ℕ, ◌+◌, ◌-◌, ◌<◌, ◌≤◌, true, ◌⊎◌, List, [], ◌∷◌, ◌++◌, length, get_or, take, drop, set, Ordering, Less, Equal, Greater, sym, ap, ◌∙◌, subst, inl, inr, arith}
+use Rattle.std.proofs.Common.{◌≡◌, ℕ, ◌+◌, ◌-◌, ◌<◌, ◌≤◌, true, ◌⊎◌, List, [], ◌∷◌, ◌++◌, length, get_or, take, drop, set, Less, Some, None, Ok, Err, Result, sym, ap, ◌∙◌, subst, inl, inr, arith}
 use borrow.Rule.Slice.PartMut.{put_mid}
-use Rattle.std.specs.List.{insert, between}
-use Rattle.std.specs.Cmp.{nat_cmp_total}
+use Rattle.std.specs.List.{insert, between, slice_get}
+use Rattle.std.specs.Result.{result_err}
+use Rattle.std.proofs.lemmas.Option.{slice_get_within, get_or_from_slice_get}
 use Rattle.std.specs.Ordering.{is_lt}
-use Rattle.std.proofs.lemmas.List.{get_or_read, length-take-le, length-drop, length_push, length-set, take_more_set, take-set-le, take-take, take_at, drop_at, drop-append-le, drop-set-lt}
+use Rattle.std.proofs.lemmas.List.{length-take-le, length-drop, length_push, length-set, take_more_set, take-set-le, take-take, take_at, drop_at, drop-append-le, drop-set-lt}
 use Rattle.std.proofs.lemmas.Slice.{between_is, take-put_mid, drop-put_mid}
 use Rattle.std.proofs.lemmas.List.Edits.{length-insert, get_or-insert_below, get_or-insert_at, get_or-insert_above}
 use Rattle.whole.specs.Places.{Among}
-use Rattle.table.specs.Order.{Key, ranked, Ascending}
-use Rattle.whole.specs.Inserted.{Between, Inserted}
+use Rattle.table.specs.Order.{Key, KeyAt, ranked, Ascending, Between, Searched}
+use Rattle.whole.specs.Inserted.{Inserted}
 use Rattle.whole.proofs.Places.{among_at, among_place}
-use Rattle.table.proofs.Narrow.{ranked_equal, ascending_far, turn_back}
+use Rattle.table.proofs.Narrow.{row_at, ascending_far, turn_back}
 use Rattle.whole.proofs.Order.{not_below_itself, not_above_itself}
-use Rattle.std.specs.Cmp.Lexicographic.{lists_total}
+
+-- a key that stands at a place is among them
+among_key : {X : Type 0} (key : X → Key) (xs : List X) (i : ℕ) (k : Key) → KeyAt key xs i k → Among (λ x. key x ≡ k) xs
+among_key {X} key xs i k h = from (row_at key xs i k h)
+  where
+    from : (x : X) × (slice_get xs i ≡ Some x) × (key x ≡ k) → Among (λ x. key x ≡ k) xs
+    from (x, e, m) = among_at (λ y. key y ≡ k) xs i x (slice_get_within xs i x e) (ap key (get_or_from_slice_get xs i x x e) ∙ m)
+
+-- what a search says of where a row goes
+pub stands_already : {X : Type 0} (key : X → Key) (xs : List X) (k : Key) (r : Result ℕ ℕ) → Searched key xs k r → result_err r ≡ None → Among (λ x. key x ≡ k) xs
+stands_already key xs k (Ok i) h e = among_key key xs i k h.1
+stands_already key xs k (Err i) h e = let z : ◌≡◌ {A = ℕ} 0 1 = cc in absurd (omega arith)
+
+pub goes_between : {X : Type 0} (key : X → Key) (xs : List X) (k : Key) (r : Result ℕ ℕ) (place : ℕ) → Searched key xs k r → result_err r ≡ Some place → Between key xs k place
+goes_between key xs k (Ok i) place h e = let z : ◌≡◌ {A = ℕ} 0 1 = cc in absurd (omega arith)
+goes_between key xs k (Err i) place h e = let same : i ≡ place = cc in subst (Between key xs k) same h
 
 module _ {X : Type 0} (key : X → Key) (xs : List X) (row : X) where
-  -- the rows from a place on are larger than the row
-  abbrev pub LargerFrom : ℕ → Type 0
-  LargerFrom place = (i : ℕ) (d : X) → place ≤ i → i < length xs → ranked (key (get_or xs i d)) (key row) ≡ Greater
-
-  module _ (up : Ascending key xs) (place : ℕ) (within : place ≤ length xs) (some : 0 < place) (x : X) (read : x ≡ get_or xs (place - 1) x) where
-    here : (o : Ordering) → o ≡ ranked (key x) (key row) → (d : X) → ranked (key (get_or xs (place - 1) d)) (key row) ≡ o
-    here o e d = ap (λ y. ranked (key y) (key row)) (sym (get_or_read xs (place - 1) x (omega arith) read d)) ∙ sym e
-
-    pub larger_more : Greater ≡ ranked (key x) (key row) → LargerFrom place → LargerFrom (place - 1)
-    larger_more e l i d h w = from (grind arith)
-      where
-        from : (place ≤ i) ⊎ (i ≡ place - 1) → ranked (key (get_or xs i d)) (key row) ≡ Greater
-        from (inl b) = l i d b w
-        from (inr b) = ap (λ j. ranked (key (get_or xs j d)) (key row)) b ∙ here Greater e d
-
-    pub smaller_found : Less ≡ ranked (key x) (key row) → LargerFrom place → Between key xs row place
-    smaller_found e l = record { within = within; smaller = λ i d h. from i d (grind arith); larger = l }
-      where
-        from : (i : ℕ) (d : X) → (i < place - 1) ⊎ (i ≡ place - 1) → ranked (key (get_or xs i d)) (key row) ≡ Less
-        from i d (inl b) = (lists_total nat_cmp_total).trans (key (get_or xs i d)) (key (get_or xs (place - 1) d)) (key row) (ascending_far key xs up i (place - 1) d b (omega arith)) (here Less e d)
-        from i d (inr b) = ap (λ j. ranked (key (get_or xs j d)) (key row)) b ∙ here Less e d
-
-    pub equal_found : Equal ≡ ranked (key x) (key row) → Among (λ y. key y ≡ key row) xs
-    equal_found e = among_at (λ y. key y ≡ key row) xs (place - 1) x (omega arith) (ap key (sym read) ∙ ranked_equal (key x) (key row) (sym e))
-
-  pub at_start : LargerFrom 0 → Between key xs row 0
-  at_start l = record { within = omega arith; smaller = λ i d h. absurd (omega arith); larger = l }
-
-  module _ (up : Ascending key xs) (place : ℕ) (b : Between key xs row place) where
+  module _ (up : Ascending key xs) (place : ℕ) (b : Between key xs (key row) place) where
     pub between_free : Among (λ x. key x ≡ key row) xs → ⊥
     between_free a = among_place (λ x. key x ≡ key row) xs none a
       where
@@ -128,7 +116,7 @@ module _ {X : Type 0} (xs : List X) (n p : ℕ) (row : X) (room : n < length xs)
         let w : p ≤ length (set xs n row) = omega (arith, length-set xs n row) in
         drop-put_mid p (n + 1 - p) (set xs n row) ys (n + 1) (omega arith) w ys_length ∙ drop-set-lt (n + 1) xs n row (omega arith)
 
-    pub turned_inserted : (key : X → Key) → Ascending key (take n xs) → Between key (take n xs) row p → Inserted key xs n row (put_mid p (n + 1 - p) (set xs n row) ys)
+    pub turned_inserted : (key : X → Key) → Ascending key (take n xs) → Between key (take n xs) (key row) p → Inserted key xs n row (put_mid p (n + 1 - p) (set xs n row) ys)
     turned_inserted key up b = record {
       place = p;
       free = between_free key (take n xs) row up p b;

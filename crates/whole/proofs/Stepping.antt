@@ -1,14 +1,17 @@
 -- One more parameter, and one more recipe, is listed. Assumes nothing.
-use Rattle.std.proofs.Common.{◌≡◌, ℕ, ◌+◌, ◌-◌, ◌*◌, ◌<◌, ◌≤◌, ◌⊎◌, List, [], ◌∷◌, ◌++◌, length, get_or, take, drop, Some, None, Option, sym, refl, ap, ◌∙◌, subst, inl, inr, ⊎_elim, arith}
+use Rattle.std.proofs.Common.{◌≡◌, ℕ, ◌+◌, ◌-◌, ◌*◌, ◌<◌, ◌≤◌, ◌⊎◌, List, [], ◌∷◌, ◌++◌, length, get_or, take, drop, Some, None, Option, Ok, Err, Result, MatchOption, MatchResult, sym, refl, ap, ◌∙◌, subst, inl, inr, ⊎_elim, arith}
 use Rattle.std.specs.List.{insert}
-use Rattle.std.specs.Option.{option_map}
+use Rattle.std.specs.Option.{option_map, ok_or}
+use Rattle.std.specs.Result.{IsErrAnd}
+use Rattle.std.proofs.lemmas.Option.{MatchOption-at_none, MatchOption-at_some}
 use Rattle.std.proofs.lemmas.List.{take_more, take_all, length-take-le, length_push, drop-drop}
 use Rattle.tree.specs.Tree.{Parameter}
 use Rattle.whole.specs.Places.{Stands, Among}
-use Rattle.table.specs.Order.{Ascending}
+use Rattle.table.specs.Order.{Key, Ascending}
 use Rattle.whole.specs.Shared.{Named, Distinct}
 use Rattle.whole.specs.Derived.{Gives}
 use Rattle.whole.specs.Inserted.{Inserted}
+use Rattle.whole.specs.declared.derive.NameTwice.{NameTwice}
 use Rattle.whole.specs.Entries.{Entry, entry, key_of, key_by, Says, Added, Stood, RecipeListed, AllListed, RecipeFilled, AllFilled, FirstTwice}
 use Rattle.whole.proofs.Places.{here_or_below, stands_within, stands_from, stands_left, stands_last, stands_push, stands_front, among_which, among_weaker, among_inserted, inserted_among}
 
@@ -99,6 +102,21 @@ pub mapped_some : {A B : Type 0} (f : A → B) (o : Option A) (b : B) → Some b
 mapped_some f None b e = let z : ◌≡◌ {A = ℕ} 0 1 = cc in absurd (omega arith)
 mapped_some f (Some a) b e = (a, refl, cc)
 
+-- what an insertion says of a parameter's name: it stood already, or its row is added
+module _ {X : Type 0} (said : X → Entry) (key : X → Key) (found_by : (x : X) → key x ≡ key_by said x) (rows after : List X) (filled recipe place : ℕ) (row : X) where
+  pub listed_by : (name : Option (List ℕ)) → Some (said row) ≡ option_map (entry recipe place) name
+      → (r : Option ℕ) → MatchOption r (Among (λ x. key x ≡ key row) (take filled rows)) (λ more. (more ≡ filled + 1) × Inserted key rows filled row after)
+      → MatchOption r (Stood said (take filled rows) recipe name) (λ m. Added said rows filled recipe place name m after)
+  listed_by name says r h =
+      from (mapped_some (entry recipe place) name (said row) says) r
+      (subst (λ k. MatchOption r (Among (λ x. k x ≡ k row) (take filled rows)) (λ more. (more ≡ filled + 1) × Inserted k rows filled row after)) (λ i x. found_by x i) h)
+    where
+      from : (t : List ℕ) × (name ≡ Some t) × (said row ≡ entry recipe place t)
+          → (r : Option ℕ) → MatchOption r (Among (λ x. key_by said x ≡ key_by said row) (take filled rows)) (λ more. (more ≡ filled + 1) × Inserted (key_by said) rows filled row after)
+          → MatchOption r (Stood said (take filled rows) recipe name) (λ m. Added said rows filled recipe place name m after)
+      from (t, n, s) None a = (t, n, among_weaker (λ x. key_by said x ≡ key_by said row) (λ x. key_by said x ≡ recipe ∷ t) (λ x e. e ∙ ap key_of s) (take filled rows) a)
+      from (t, n, s) (Some more) i = subst (λ o. Added said rows filled recipe place o more after) (sym n) (row, s, i.0, i.1)
+
 -- ---- the loop over a recipe's parameters
 
 -- so far the names at the places below `place` are listed
@@ -167,6 +185,15 @@ module _ {X : Type 0} (said : X → Entry) (name : Parameter → Option (List �
   }
 
 -- ---- the loop over the recipes
+
+-- a recipe that is refused is told, and else the loop goes on
+refused : (o : Option ℕ) (e t : NameTwice) → ok_or o e ≡ Err t → (o ≡ None) × (t ≡ e)
+refused None e t h = (refl, cc)
+refused (Some m) e t h = let z : ◌≡◌ {A = ℕ} 0 1 = cc in absurd (omega arith)
+
+went_on : (o : Option ℕ) (e : NameTwice) (m : ℕ) → ok_or o e ≡ Ok m → o ≡ Some m
+went_on None e m h = let z : ◌≡◌ {A = ℕ} 0 1 = cc in absurd (omega arith)
+went_on (Some n) e m h = cc
 
 module _ {X : Type 0} (said : X → Entry) (name : Parameter → Option (List ℕ)) where
   pub all_none : (rows : List X) → AllListed said name [] (take 0 rows)
@@ -254,6 +281,18 @@ module _ {X : Type 0} (said : X → Entry) (name : Parameter → Option (List �
 
             further : drop more now' ≡ drop more rows
             further = apart (more - filled) (omega (arith, f.least))
+
+      -- what the loop makes of a recipe's answer: it is told, or the next one follows
+      module _ (ps : List Parameter) (within : number < length recipes) (here : get_or recipes number ps ≡ ps) (o : Option ℕ) (after : List X) (h : MatchOption o (Distinct name ps → ⊥) (λ more. RecipeFilled said name number ps now' filled more after)) where
+        pub gone_told : (e t : NameTwice) → e.recipe ≡ number → ok_or o e ≡ Err t → (Q : ℕ → Type 0) (r : Result ℕ NameTwice) → IsErrAnd r (λ s. s ≡ t) → MatchResult r Q (λ s. FirstTwice name recipes s.recipe)
+        gone_told e t n k Q (Ok m) i = absurd i
+        gone_told e t n k Q (Err s) i =
+            let w = refused o e t k in
+            let at : s.recipe ≡ number = ap (λ u. u.recipe) (i ∙ w.1) ∙ n in
+            subst (FirstTwice name recipes) (sym at) (gone_twice ps within here (MatchOption-at_none (Distinct name ps → ⊥) (λ more. RecipeFilled said name number ps now' filled more after) w.0 h))
+
+        pub gone_on : (e : NameTwice) (more : ℕ) → ok_or o e ≡ Ok more → length after ≡ length now' → Gone (number + 1) more after
+        gone_on e more k long = gone_more ps within here more after long (MatchOption-at_some (Distinct name ps → ⊥) (λ m. RecipeFilled said name number ps now' filled m after) more (went_on o e more k) h)
 
       pub gone_all : length recipes ≤ number → number ≤ length recipes → length recipes * 16 ≤ length rows → AllFilled said name recipes rows filled now'
       gone_all h k room = record {

@@ -1,8 +1,6 @@
 -- The steps of a derivation, for rows of either kind: definitions for the contracts of inner functions alone. Assumes nothing.
 use Rattle.std.specs.Prelude.{◌≡◌, ℕ, ◌+◌, ◌<◌, ◌≤◌, min, ◌⊎◌, List, [], ◌∷◌, length, take, drop, Some, Ok, Err, Option, Result, MatchOption}
 use Rattle.std.specs.Option.{option_map}
-use Rattle.refusal.specs.declared.Refusal.{Refusal}
-use Rattle.refusal.specs.declared.Refusal.TheVariants.{SharedName}
 use Rattle.text.specs.Spans.{text_at}
 use Rattle.tree.specs.Tree.{Parameter}
 use Rattle.tree.specs.declared.rows.LongRow.{LongRow}
@@ -13,6 +11,7 @@ use Rattle.whole.specs.Shared.{Named, Distinct}
 use Rattle.whole.specs.Derived.{Gives}
 use Rattle.whole.specs.Inserted.{Inserted}
 use Rattle.whole.specs.declared.filled.Filled.{Filled}
+use Rattle.whole.specs.declared.derive.NameTwice.{NameTwice}
 
 -- What a row of either kind says: the parameter at a place of a recipe has a name. Here a name is a list of numbers: a long name its bytes, a letter its one code point.
 pub record Entry : Type 0 where
@@ -89,8 +88,8 @@ pub record FirstTwice (name : Parameter → Option (List ℕ)) (recipes : List (
   pub twice : Stands (λ parameters. Distinct name parameters → ⊥) recipes r
 
 -- the answer from those for long names and for letters
-abbrev pub joined : Result ℕ ℕ → Result ℕ ℕ → Result Filled Refusal
+abbrev pub joined : Result ℕ NameTwice → Result ℕ NameTwice → Result Filled NameTwice
 joined (Ok longs) (Ok letters) = Ok (record { longs = longs; letters = letters })
-joined (Ok longs) (Err r) = Err (SharedName r)
-joined (Err r) (Ok letters) = Err (SharedName r)
-joined (Err r) (Err s) = Err (SharedName (min r s))
+joined (Ok longs) (Err r) = Err r
+joined (Err r) (Ok letters) = Err r
+joined (Err r) (Err s) = Err (record { recipe = min r.recipe s.recipe })

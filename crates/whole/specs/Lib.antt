@@ -1,4 +1,5 @@
 pub mod Places
+pub mod Once
 pub mod Modules
 pub mod Shared
 pub mod Derived

@@ -1,5 +1,6 @@
 // The rows that list the long names and the letters of all recipes' parameters.
 ghost use Rattle.std.specs.Prelude.{◌≡◌, ◌+◌, ◌*◌, ◌<◌, ◌≤◌, map, length, take, MatchOption, MatchResult};
+ghost use Rattle.refusal.specs.declared.Refusal.TheVariants.{SharedName};
 ghost use Rattle.tree.specs.Rows.{parameter_at, recipe_at};
 ghost use Rattle.table.specs.Order.{Ascending};
 ghost use Rattle.whole.specs.Places.{Among};
@@ -11,12 +12,14 @@ use crate::filled::Filled;
 use crate::insertion::insert;
 use crate::listing::Listing;
 use refusal::Refusal;
-use tree::front::front;
+use table::keyed::Keyed;
+use text::part::front;
 use tree::rows::{LetterRow, LongRow, ParameterRow, RecipeRow};
 
 // Lists a parameter's name, if it has one. None where the recipe has that name already.
-fn list_parameter<T: Listing>(
-    image: &[u8],
+// Kept: `image`, `rows` and `filled` side by side; as a method of a struct with a ghost field that the filled rows ascend, `insert` did not close, since the field must hold before a written row is turned to its place, and the other methods must say besides that rows, image and length stay.
+fn list_parameter<'k, T: Listing + Keyed<'k>>(
+    image: &'k [u8],
     recipe: u16,
     place: u8,
     parameter: &ParameterRow,
@@ -28,13 +31,7 @@ fn list_parameter<T: Listing>(
     ensures { MatchOption result (Stood (T.Listing.said image.now) (take filled rows.old) recipe (T.Listing.name (parameter_at image.now parameter.now))) (λ m. Added (T.Listing.said image.now) rows.old filled recipe place (T.Listing.name (parameter_at image.now parameter.now)) m rows.new) }
 {
     match T::list(recipe, place, parameter) {
-        Some(row) => {
-            if insert(image, rows, filled, row) {
-                Some(filled + 1)
-            } else {
-                None
-            }
-        }
+        Some(row) => insert(image, rows, filled, row),
         None => Some(filled),
     }
 }
@@ -48,8 +45,8 @@ fn parameters_of(recipe: &RecipeRow) -> &[ParameterRow]
 }
 
 // Lists the names of a recipe's parameters. None where two of them share a name.
-fn list_recipe<T: Listing>(
-    image: &[u8],
+fn list_recipe<'k, T: Listing + Keyed<'k>>(
+    image: &'k [u8],
     number: u16,
     recipe: &RecipeRow,
     rows: &mut [T],
@@ -63,41 +60,58 @@ fn list_recipe<T: Listing>(
     let mut listed = filled;
     let parameters = parameters_of(recipe);
     for (place, parameter) in parameters.iter().enumerate() {
-        match list_parameter(image, number, place as u8, parameter, rows, listed) {
-            Some(more) => listed = more,
-            None => return None,
-        }
+        listed = list_parameter(image, number, place as u8, parameter, rows, listed)?;
     }
     Some(listed)
 }
 
-// Lists the names of all recipes' parameters. The error is the lowest recipe that has one name twice.
-fn list_all<T: Listing>(image: &[u8], recipes: &[RecipeRow], rows: &mut [T]) -> Result<usize, usize>
+// A recipe has one name twice.
+#[derive(Clone, Copy)]
+struct NameTwice {
+    recipe: usize,
+}
+
+impl From<NameTwice> for Refusal {
+    ghost from_gives = { λ twice refusal. refusal ≡ SharedName twice.recipe };
+
+    fn from(twice: NameTwice) -> Refusal {
+        Refusal::SharedName {
+            recipe: twice.recipe,
+        }
+    }
+}
+
+// Lists the names of all recipes' parameters. Tells the lowest recipe that has one name twice.
+fn list_all<'k, T: Listing + Keyed<'k>>(
+    image: &'k [u8],
+    recipes: &[RecipeRow],
+    rows: &mut [T],
+) -> Result<usize, NameTwice>
     requires few { length recipes.now ≤ 64 }
     requires room { length recipes.now * 16 ≤ length rows.old }
-    ensures { MatchResult result (λ m. AllFilled (T.Listing.said image.now) T.Listing.name (map (recipe_at image.now) recipes.now) rows.old m rows.new) (FirstTwice T.Listing.name (map (recipe_at image.now) recipes.now)) }
+    ensures { MatchResult result (λ m. AllFilled (T.Listing.said image.now) T.Listing.name (map (recipe_at image.now) recipes.now) rows.old m rows.new) (λ twice. FirstTwice T.Listing.name (map (recipe_at image.now) recipes.now) twice.recipe) }
 {
     let mut filled = 0;
-    for (number, recipe) in recipes.iter().enumerate() {
-        match list_recipe(image, number as u16, recipe, rows, filled) {
-            Some(more) => filled = more,
-            None => return Err(number),
-        }
+    for (recipe, row) in recipes.iter().enumerate() {
+        let twice = NameTwice { recipe };
+        filled = list_recipe(image, recipe as u16, row, rows, filled).ok_or(twice)?;
     }
     Ok(filled)
 }
 
 // The answer for both kinds of names: how many rows are filled, or the lowest recipe that was refused.
-fn join(long: Result<usize, usize>, letter: Result<usize, usize>) -> Result<Filled, Refusal>
+fn join(
+    long: Result<usize, NameTwice>,
+    letter: Result<usize, NameTwice>,
+) -> Result<Filled, NameTwice>
     ensures { result ≡ joined long letter }
 {
     match (long, letter) {
         (Ok(longs), Ok(letters)) => Ok(Filled { longs, letters }),
-        (Ok(_), Err(recipe)) => Err(Refusal::SharedName { recipe }),
-        (Err(recipe), Ok(_)) => Err(Refusal::SharedName { recipe }),
-        (Err(first), Err(second)) => Err(Refusal::SharedName {
-            recipe: first.min(second),
+        (Err(long), Err(letter)) => Err(NameTwice {
+            recipe: long.recipe.min(letter.recipe),
         }),
+        (Err(twice), _) | (_, Err(twice)) => Err(twice),
     }
 }
 
@@ -115,5 +129,5 @@ pub fn derive_names(
     let filled = front(recipes, count);
     let long = list_all(image, filled, longs);
     let letter = list_all(image, filled, letters);
-    join(long, letter)
+    Ok(join(long, letter)?)
 }

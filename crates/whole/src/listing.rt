@@ -1,17 +1,15 @@
-// Rows that list the names of recipes' parameters, and the order in which they stand.
-ghost use Rattle.std.specs.Prelude.{◌≡◌, ℕ, List, Option};
+// Rows that list the names of recipes' parameters.
+ghost use Rattle.std.specs.Prelude.{◌≡◌, ℕ, List, Option, refl};
 ghost use Rattle.std.specs.Option.{option_map};
 ghost use Rattle.tree.specs.Tree.{Parameter};
 ghost use Rattle.tree.specs.Rows.{parameter_at};
-ghost use Rattle.table.specs.Order.{ranked};
 ghost use Rattle.whole.specs.Entries.{Entry, entry, key_of, long_entry, letter_entry, long_name, letter_name};
 
-use std::cmp::Ordering;
-use text::span::texts::text_at;
+use table::keyed::Ranked;
 use tree::rows::{LetterRow, LongRow, ParameterRow};
 
-// A row that lists a name of a recipe's parameter; texts lie in an image.
-pub trait Listing: Copy {
+// A row that lists a name of a recipe's parameter, and is found by the recipe and the name; texts lie in an image.
+pub trait Listing: Ranked + Copy {
     ghost said: { List ℕ → Self → Entry };
 
     ghost name: { Parameter → Option (List ℕ) };
@@ -20,16 +18,7 @@ pub trait Listing: Copy {
     fn list(recipe: u16, place: u8, parameter: &ParameterRow) -> Option<Self>
         ensures { (image : List ℕ) → option_map (said image) result ≡ option_map (entry recipe place) (name (parameter_at image parameter.now)) };
 
-    // Which of two rows comes first.
-    fn compare(&self, other: &Self, image: &[u8]) -> Ordering
-        ensures { result ≡ ranked (key_of (said image.now self.now)) (key_of (said image.now other.now)) };
-}
-
-// Which of two texts comes first.
-fn ordered(a: &[u8], b: &[u8]) -> Ordering
-    ensures { result ≡ ranked a.now b.now }
-{
-    a.cmp(&b)
+    ghost found_by: { (image : List ℕ) (row : Self) → Self.keyed image row ≡ key_of (said image row) };
 }
 
 impl Listing for LongRow {
@@ -38,22 +27,15 @@ impl Listing for LongRow {
     ghost name = { long_name };
 
     fn list(recipe: u16, place: u8, parameter: &ParameterRow) -> Option<LongRow> {
-        match parameter.long {
-            Some(text) => Some(LongRow {
-                recipe,
-                text,
-                place,
-            }),
-            None => None,
-        }
+        let text = parameter.long?;
+        Some(LongRow {
+            recipe,
+            text,
+            place,
+        })
     }
 
-    fn compare(&self, other: &LongRow, image: &[u8]) -> Ordering {
-        match self.recipe.cmp(&other.recipe) {
-            Ordering::Equal => ordered(text_at(image, self.text), text_at(image, other.text)),
-            apart => apart,
-        }
-    }
+    ghost found_by = { λ image row. refl };
 }
 
 impl Listing for LetterRow {
@@ -62,20 +44,13 @@ impl Listing for LetterRow {
     ghost name = { letter_name };
 
     fn list(recipe: u16, place: u8, parameter: &ParameterRow) -> Option<LetterRow> {
-        match parameter.letter {
-            Some(letter) => Some(LetterRow {
-                recipe,
-                letter,
-                place,
-            }),
-            None => None,
-        }
+        let letter = parameter.letter?;
+        Some(LetterRow {
+            recipe,
+            letter,
+            place,
+        })
     }
 
-    fn compare(&self, other: &LetterRow, _image: &[u8]) -> Ordering {
-        match self.recipe.cmp(&other.recipe) {
-            Ordering::Equal => self.letter.cmp(&other.letter),
-            apart => apart,
-        }
-    }
+    ghost found_by = { λ image row. refl };
 }

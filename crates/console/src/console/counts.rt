@@ -19,19 +19,9 @@ impl Console {
     pub fn status(&self) -> Status
         ensures { Adds self.now (Event.status result) self.now }
     {
-        let waiting = self.waiting();
-        if self.out {
-            Status {
-                waiting,
-                out: true,
-                serial: self.next_serial(),
-            }
-        } else {
-            Status {
-                waiting,
-                out: false,
-                serial: 0,
-            }
+        Status {
+            waiting: self.waiting(),
+            out: self.out.then(|| self.next_serial()),
         }
     }
 }

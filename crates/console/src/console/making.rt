@@ -9,12 +9,13 @@ use reader::invocation_parser::InvocationParser;
 
 impl Console {
     // A console with its number and first serial; 0 means 1.
+    // Kept: 0 has a meaning, since no call asks its caller to test beforehand.
     pub fn new(number: u32, first: u32) -> Console
         ensures { Led (History.made number first) result }
     {
         Console {
             number,
-            first: if first == 0 { 1 } else { first },
+            first: first.max(1),
             base: 0,
             total: 0,
             at: 0,

@@ -1,5 +1,6 @@
 // The call that reads a kept text back.
-ghost use Rattle.std.specs.Prelude.{◌≡◌, take, None as Nothing};
+ghost use Rattle.std.specs.Prelude.{◌≡◌, ◌==◌, take, None as Nothing};
+ghost use Rattle.std.specs.List.{find};
 ghost use Rattle.std.specs.Option.{option_map};
 ghost use Rattle.reading.specs.Reading.{group};
 ghost use Rattle.book.specs.Kept.{row_kept};
@@ -9,10 +10,20 @@ ghost use Rattle.console.specs.Right.{first_text};
 ghost use Rattle.console.specs.State.{Adds, FoundRow, texts};
 
 use crate::console::Console;
-use crate::console::values::{first_source, source_text};
 use book::order_row::OrderRow;
+use reader::counts::source_text;
+use reader::source::{Source, ValueRow};
 use refusal::Refusal;
 use register::register::Register;
+
+// Where the first text of a parameter stands.
+fn first_source(rows: &[ValueRow], parameter: usize) -> Option<Source>
+    ensures { result ≡ option_map (λ row. row.source) (find (λ row. row.parameter == parameter) rows.now) }
+{
+    rows.iter()
+        .find(|row| row.parameter == parameter)
+        .map(|row| row.source)
+}
 
 impl Console {
     // The row of the kept order with this serial.
@@ -22,15 +33,8 @@ impl Console {
         if !self.keeps_line() {
             return None;
         }
-        let start = self.first + self.base;
-        if serial < start {
-            return None;
-        }
-        let i = (serial - start) as usize;
-        if i >= self.book.fill.orders {
-            return None;
-        }
-        Some(self.book.orders[i])
+        let row = serial.checked_sub(self.first + self.base)?;
+        self.book.orders().get(row as usize).copied()
     }
 
     // The first text that the line has for a parameter of the order in a row.
@@ -39,10 +43,7 @@ impl Console {
     {
         let line = self.book.line();
         let rows = self.book.values(row);
-        match first_source(rows, parameter) {
-            Some(source) => Some(source_text(line, source)),
-            None => None,
-        }
+        first_source(rows, parameter).map(|source| source_text(line, source))
     }
 
     // The first text of a parameter of a kept order: a part of the line, `true`, or the default's text by this register.
@@ -60,9 +61,7 @@ impl Console {
         if parameter >= register.count(row.recipe) {
             return Err(Refusal::NoSuchParameter);
         }
-        match self.text_of(row, parameter) {
-            Some(text) => Ok(Some(text)),
-            None => Ok(register.default_text(row.recipe, parameter)),
-        }
+        let text = self.text_of(row, parameter);
+        Ok(text.or_else(|| register.default_text(row.recipe, parameter)))
     }
 }

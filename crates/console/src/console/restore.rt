@@ -12,7 +12,7 @@ pub(crate) struct Restore<'a> {
 
 impl Drop for Restore<'_> {
     fn drop(self)
-        ensures { self.exit.0.now ≡ record { fill = self.entry.old; bytes = self.entry.book.now.bytes; roles = self.entry.book.now.roles; orders = self.entry.book.now.orders; values = self.entry.book.now.values } }
+        ensures { self.exit.0.now ≡ record self.entry.book.now { fill = self.entry.old } }
     {
         self.book.fill = self.old;
         let Restore { book: _, old: _ } = self;

@@ -1,5 +1,9 @@
 // Slips.
-ghost use Rattle.std.specs.Prelude.{◌≡◌, T};
+ghost use Rattle.std.specs.Prelude.{◌≡◌, IsTrue, ◌↔◌};
+ghost use Rattle.console.specs.State.{Owed, TakesBack};
+
+use crate::console::Console;
+use refusal::Refusal;
 
 mod acknowledge;
 mod issue;
@@ -19,17 +23,31 @@ impl Slip {
         Slip { number, serial }
     }
 
-    fn has(&self, number: u32, serial: u32) -> bool
-        ensures number_value { T result → (self.now.number ≡ number) × (self.now.serial ≡ serial) }
-        ensures t { self.now.number ≡ number → self.now.serial ≡ serial → T result }
-    {
-        self.number == number && self.serial == serial
-    }
-
     fn spend(self) {
         let Slip {
             number: _,
             serial: _,
         } = self;
+    }
+}
+
+impl Console {
+    // Whether this is the slip of the order that is out.
+    fn is_owed(&self, slip: &Slip) -> bool
+        ensures { IsTrue result ↔ Owed self.now slip.now }
+    {
+        self.out && slip.number == self.number && slip.serial == self.next_serial()
+    }
+
+    // Spends the slip of the order that is out, and the order waits again.
+    fn take_back(&mut self, slip: Slip) -> Result<(), (Slip, Refusal)>
+        ensures { TakesBack slip self.old result self.new }
+    {
+        if !self.is_owed(&slip) {
+            return Err((slip, Refusal::WrongSlip));
+        }
+        slip.spend();
+        self.out = false;
+        Ok(())
     }
 }

@@ -26,11 +26,7 @@ impl Console {
     pub(crate) fn waiting(&self) -> usize
         ensures { result ≡ self.now.book.fill.orders - (self.now.at + (if self.now.out then 1 else 0)) }
     {
-        if self.out {
-            self.book.fill.orders - self.at - 1
-        } else {
-            self.book.fill.orders - self.at
-        }
+        self.book.fill.orders - self.at - usize::from(self.out)
     }
 
     // What an issue tells of the first order that waits.

@@ -3,27 +3,15 @@ ghost use Rattle.std.specs.Prelude.{◌≡◌};
 ghost use Rattle.image.specs.Tables.{zero as zero_tables};
 
 use crate::tables::{Sizes, Tables};
+use register::kind::Kind;
 use text::span::Span;
-use tree::rows::{LetterRow, LongRow, ModuleRow, NameRow, ParameterRow, PatternRow, RecipeRow};
+use tree::rows::{LetterRow, LongRow, ModuleRow, NO_PARAMETER, NameRow, PatternRow, RecipeRow};
 
 const NO_TEXT: Span = Span { start: 0, len: 0 };
 
-const NO_PARAMETER: ParameterRow = ParameterRow {
-    default: None,
-    flag: false,
-    multiple: false,
-    value: false,
-    kind: None,
-    long: None,
-    letter: None,
-    min: None,
-    max: None,
-    pattern: None,
-};
-
 const NO_NAME: NameRow = NameRow {
     module: 0,
-    kind: 0,
+    kind: Kind::Module,
     text: NO_TEXT,
     number: None,
 };

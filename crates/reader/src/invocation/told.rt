@@ -1,6 +1,5 @@
 // What an order tells.
 ghost use Rattle.std.specs.Prelude.{◌≡◌};
-ghost use Rattle.reader.specs.Meaning.{held};
 
 use crate::invocation::Invocation;
 use crate::source::ValueRow;
@@ -15,7 +14,7 @@ impl Invocation {
 
     // Its values, in sequence.
     pub fn values(&self) -> &[ValueRow]
-        ensures { result.now ≡ held self.now.values }
+        ensures { result.now ≡ self.now.values.rows.items }
     {
         self.values.rows()
     }

@@ -6,15 +6,14 @@ ghost use Rattle.reading.specs.Model.{started, step as step_of, free_step, value
 ghost use Rattle.reading.specs.declared.role.Role.{Role as WordRole};
 ghost use Rattle.register.specs.Meaning.{ParameterMeaning};
 ghost use Rattle.reader.specs.Answers.{Shows, waiting_of};
-ghost use Rattle.reader.specs.Steps.{state_of, next_of, Awaits, Grows};
+ghost use Rattle.reader.specs.Signatures.{parameters_of};
+ghost use Rattle.reader.specs.Steps.{state_of, next_of, Awaits, MayGrow, Grows};
 
 use crate::awaited::Awaited;
 use crate::invocation::Invocation;
-use crate::signature::{has_options, plain_place};
+use crate::signature::Signature;
 use crate::source::Source;
-use crate::switch::called_at;
 use crate::values::Values;
-use crate::waiting::Waiting;
 use crate::word::apply_word;
 use reading::role::Role;
 use refusal::Refusal;
@@ -35,65 +34,46 @@ impl Invocation {
     pub fn new(path: usize) -> Invocation
         ensures state { (ps : List ParameterMeaning) (bytes : List ℕ) → state_of ps bytes result [] ≡ started path }
         ensures words { result.words ≡ path }
-        ensures fill { result.values.fill ≡ 0 }
+        ensures fill { result.values.rows.items ≡ [] }
     {
         Invocation {
             words: path,
             ended: false,
             plains: 0,
-            waiting: Waiting::Nobody,
-            values: Values::new(),
-        }
-    }
-
-    // An order that has not begun.
-    pub fn unbegun() -> Invocation {
-        Invocation {
-            words: 0,
-            ended: false,
-            plains: 0,
-            waiting: Waiting::Nobody,
+            waiting: None,
             values: Values::new(),
         }
     }
 
     // Begins an order behind its path.
+    // Kept: beside `new`, since a new order writes all rows of its table, and a line's orders share one that is written once.
     pub(crate) fn restart(&mut self, path: usize)
         ensures state { (ps : List ParameterMeaning) (bytes : List ℕ) → state_of ps bytes self.new [] ≡ started path }
         ensures words { self.new.words ≡ path }
-        ensures fill { self.new.values.fill ≡ 0 }
+        ensures fill { self.new.values.rows.items ≡ [] }
     {
         self.plains = 0;
         self.words = path;
         self.ended = false;
-        self.waiting = Waiting::Nobody;
-        self.values.clear();
+        self.waiting = None;
+        self.values.rows.clear();
     }
 
-    pub(crate) fn awaited<R: Register>(&self, register: &R, recipe: u16) -> Option<Awaited>
-        ensures { Awaits ((R.Register.signatures register.now).parameters recipe) (waiting_of ((R.Register.signatures register.now).parameters recipe) self.now.waiting) result }
+    pub(crate) fn awaited<R: Register>(&self, signature: &Signature<'_, R>) -> Option<Awaited>
+        ensures { Awaits (parameters_of R.Register.signatures signature.now) (waiting_of (parameters_of R.Register.signatures signature.now) self.now.waiting) result }
     {
-        match self.waiting {
-            Waiting::Nobody => None,
-            Waiting::For {
-                place,
-                word,
-                letter,
-            } => {
-                let called = called_at(register, recipe, Some(place))?;
-                Some(Awaited {
-                    called,
-                    word,
-                    letter,
-                })
-            }
-        }
+        let waiting = self.waiting?;
+        let called = signature.called(waiting.place)?;
+        Some(Awaited {
+            called,
+            word: waiting.word,
+            letter: waiting.letter,
+        })
     }
 
     // The value of the switch that waits for it.
     fn value_word(&mut self, span: Span, awaited: Awaited) -> Result<Option<Role>, Refusal>
-        requires words { self.old.words < 1024 }
-        requires room { self.old.values.fill < 1024 }
+        requires { MayGrow 1 self.old }
         ensures next { (ps : List ParameterMeaning) (c : CalledParameter) (bytes : List ℕ) (roles : List WordRole) → Shows ps c awaited.called → next_of ps bytes roles result self.new ≡ value_step (state_of ps bytes self.old roles) (text_at bytes span) c awaited.word awaited.letter }
         ensures grows { Grows 1 self.old self.new result }
     {
@@ -105,7 +85,7 @@ impl Invocation {
         }
         self.values
             .push(awaited.called.place, Source::Part(span), self.words);
-        self.waiting = Waiting::Nobody;
+        self.waiting = None;
         self.words += 1;
         Ok(Some(Role::SwitchValue))
     }
@@ -116,47 +96,43 @@ impl Invocation {
         ensures grows { Grows 1 self.old self.new result }
     {
         self.ended = true;
-        self.waiting = Waiting::Nobody;
+        self.waiting = None;
         self.words += 1;
         Ok(Some(Role::EndMark))
     }
 
     fn plain_word<R: Register>(
         &mut self,
-        register: &R,
-        recipe: u16,
+        signature: &Signature<'_, R>,
         span: Span,
     ) -> Result<Option<Role>, Refusal>
-        requires words { self.old.words < 1024 }
-        requires room { self.old.values.fill < 1024 }
-        ensures next { (ps : List ParameterMeaning) (bytes : List ℕ) (roles : List WordRole) → next_of ps bytes roles result self.new ≡ plain_step (state_of ps bytes self.old roles) (text_at bytes span) (taker ((R.Register.signatures register.now).parameters recipe) self.old.plains) }
+        requires { MayGrow 1 self.old }
+        ensures next { (ps : List ParameterMeaning) (bytes : List ℕ) (roles : List WordRole) → next_of ps bytes roles result self.new ≡ plain_step (state_of ps bytes self.old roles) (text_at bytes span) (taker (parameters_of R.Register.signatures signature.now) self.old.plains) }
         ensures grows { Grows 1 self.old self.new result }
     {
-        let Some(parameter) = plain_place(register, recipe, self.plains) else {
+        let Some(parameter) = signature.plain_place(self.plains) else {
             return Ok(None);
         };
         self.values.push(parameter, Source::Part(span), self.words);
-        self.waiting = Waiting::Nobody;
+        self.waiting = None;
         self.words += 1;
         self.plains += 1;
         Ok(Some(Role::PlainWord { parameter }))
     }
 
+    // Kept: `bytes` and `span` are given one by one, here and below, since a struct of both would be taken apart again for the span that a value keeps and the text that its switches are.
     fn switch_word<R: Register>(
         &mut self,
-        register: &R,
-        recipe: u16,
+        signature: &Signature<'_, R>,
         bytes: &[u8],
         span: Span,
     ) -> Result<Option<Role>, Refusal>
-        requires words { self.old.words < 1024 }
         requires dashed { is_dashed (text_at bytes.now span) ≡ true }
-        requires room { self.old.values.fill + length (text_at bytes.now span) ≤ 1024 }
-        ensures next { (roles : List WordRole) → next_of ((R.Register.signatures register.now).parameters recipe) bytes.now roles result self.new ≡ switch_step ((R.Register.signatures register.now).parameters recipe) (state_of ((R.Register.signatures register.now).parameters recipe) bytes.now self.old roles) (text_at bytes.now span) }
+        requires room { MayGrow (length (text_at bytes.now span)) self.old }
+        ensures next { (roles : List WordRole) → next_of (parameters_of R.Register.signatures signature.now) bytes.now roles result self.new ≡ switch_step (parameters_of R.Register.signatures signature.now) (state_of (parameters_of R.Register.signatures signature.now) bytes.now self.old roles) (text_at bytes.now span) }
         ensures grows { Grows (length (text_at bytes.now span)) self.old self.new result }
     {
-        let waiting = apply_word(register, recipe, bytes, span, self.words, &mut self.values)?;
-        self.waiting = waiting;
+        self.waiting = apply_word(signature, bytes, span, self.words, &mut self.values)?;
         self.words += 1;
         Ok(Some(Role::SwitchWord))
     }
@@ -164,45 +140,41 @@ impl Invocation {
     // A word for which no switch waits.
     fn free_word<R: Register>(
         &mut self,
-        register: &R,
-        recipe: u16,
+        signature: &Signature<'_, R>,
         bytes: &[u8],
         span: Span,
     ) -> Result<Option<Role>, Refusal>
-        requires words { self.old.words < 1024 }
-        requires room { self.old.values.fill + length (text_at bytes.now span) < 1024 }
-        ensures next { (roles : List WordRole) → next_of ((R.Register.signatures register.now).parameters recipe) bytes.now roles result self.new ≡ free_step ((R.Register.signatures register.now).parameters recipe) (state_of ((R.Register.signatures register.now).parameters recipe) bytes.now self.old roles) (text_at bytes.now span) }
+        requires { MayGrow (suc (length (text_at bytes.now span))) self.old }
+        ensures next { (roles : List WordRole) → next_of (parameters_of R.Register.signatures signature.now) bytes.now roles result self.new ≡ free_step (parameters_of R.Register.signatures signature.now) (state_of (parameters_of R.Register.signatures signature.now) bytes.now self.old roles) (text_at bytes.now span) }
         ensures grows { Grows (suc (length (text_at bytes.now span))) self.old self.new result }
     {
-        if self.ended || !has_options(register, recipe) {
-            return self.plain_word(register, recipe, span);
+        if self.ended || !signature.has_options() {
+            return self.plain_word(signature, span);
         }
         let text = text_at(bytes, span);
         if is_end_mark(text) {
             return self.end_mark();
         }
         if is_dashed(text) {
-            return self.switch_word(register, recipe, bytes, span);
+            return self.switch_word(signature, bytes, span);
         }
-        self.plain_word(register, recipe, span)
+        self.plain_word(signature, span)
     }
 
     // The next word: its role, or none if the order ends before it.
     pub(crate) fn read_word<R: Register>(
         &mut self,
-        register: &R,
-        recipe: u16,
+        signature: &Signature<'_, R>,
         bytes: &[u8],
         span: Span,
     ) -> Result<Option<Role>, Refusal>
-        requires words { self.old.words < 1024 }
-        requires room { self.old.values.fill + length (text_at bytes.now span) < 1024 }
-        ensures next { (roles : List WordRole) → next_of ((R.Register.signatures register.now).parameters recipe) bytes.now roles result self.new ≡ step_of ((R.Register.signatures register.now).parameters recipe) (state_of ((R.Register.signatures register.now).parameters recipe) bytes.now self.old roles) (text_at bytes.now span) }
+        requires { MayGrow (suc (length (text_at bytes.now span))) self.old }
+        ensures next { (roles : List WordRole) → next_of (parameters_of R.Register.signatures signature.now) bytes.now roles result self.new ≡ step_of (parameters_of R.Register.signatures signature.now) (state_of (parameters_of R.Register.signatures signature.now) bytes.now self.old roles) (text_at bytes.now span) }
         ensures grows { Grows (suc (length (text_at bytes.now span))) self.old self.new result }
     {
-        match self.awaited(register, recipe) {
+        match self.awaited(signature) {
             Some(awaited) => self.value_word(span, awaited),
-            None => self.free_word(register, recipe, bytes, span),
+            None => self.free_word(signature, bytes, span),
         }
     }
 }

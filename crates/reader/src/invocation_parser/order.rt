@@ -1,13 +1,11 @@
 // One order: its path, its words and their counts.
-ghost use Rattle.std.specs.Prelude.{◌≡◌, ◌+◌, ◌≤◌, [], length, Result as Answer};
-ghost use Rattle.refusal.specs.declared.Refusal.{Refusal as Fault};
+ghost use Rattle.std.specs.Prelude.{◌≤◌, length};
 ghost use Rattle.text.specs.Line.{closed};
 ghost use Rattle.text.specs.Spans.{texts_at};
-ghost use Rattle.path.specs.Path.{PathAnswer};
-ghost use Rattle.path.specs.declared.path.Path.{Path as FoundPath};
-ghost use Rattle.reader.specs.Orders.{order_by, parsed_order, ParsedWithin};
+ghost use Rattle.reader.specs.Orders.{OrderedBy, ParsedWithin};
 
 use crate::invocation_parser::{InvocationParser, check_can_be_default_recipe};
+use crate::signature::Signature;
 use judge::Judge;
 use path::path::Path;
 use path::walk::find_path;
@@ -26,22 +24,21 @@ impl InvocationParser {
     ) -> Result<Path, Refusal>
         requires room { length (closed (texts_at bytes.now words.now)) ≤ 1024 }
         requires few { length words.now ≤ 128 }
-        ensures ordered { (walked : Answer FoundPath Fault) → PathAnswer (R.Register.names register.now) (texts_at bytes.now words.now) walked → parsed_order (R.Register.signatures register.now) bytes.now words.now result self.new ≡ order_by (R.Register.signatures register.now) (J.Judge.accepts judge.now) (texts_at bytes.now words.now) walked }
+        ensures ordered { OrderedBy (R.Register.names register.now) (R.Register.signatures register.now) (J.Judge.accepts judge.now) bytes.now words.now result self.new }
         ensures within { ParsedWithin (R.Register.names register.now) bytes.now words.now result self.new }
     {
         let path = find_path(register, bytes, words)?;
         check_can_be_default_recipe(register, path)?;
         let taken = path.words;
+        let signature = Signature {
+            register,
+            recipe: path.recipe,
+        };
         self.order.restart(taken);
         self.roles.clear();
-        self.order.read_words(
-            register,
-            path.recipe,
-            bytes,
-            &words[taken..],
-            &mut self.roles,
-        )?;
-        self.order.check(register, judge, path.recipe, bytes)?;
+        self.order
+            .read_words(&signature, bytes, &words[taken..], &mut self.roles)?;
+        self.order.check(&signature, judge, bytes)?;
         Ok(path)
     }
 }

@@ -5,6 +5,7 @@ ghost use Rattle.text.specs.Line.{Within, Oversteps, LineStands};
 ghost use Rattle.text.specs.Lines.{ends, Filled, FirstGarbled, bytes_of, words_of};
 
 use crate::line::{LINE_BYTES, LINE_WORDS, Line};
+use crate::part::front;
 use crate::span::Span;
 use crate::span::texts::text_at;
 use crate::utf8::is_utf8;
@@ -14,13 +15,11 @@ use refusal::Refusal;
 fn is_closed(bytes: &[u8]) -> bool
     ensures { result ≡ ends bytes.now }
 {
-    match bytes.last() {
-        None => true,
-        Some(last) => *last == 0,
-    }
+    bytes.last().is_none_or(|last| *last == 0)
 }
 
 // Fills the table with the words of a closed line; tells how many there are, or none where there are too many.
+// Kept: `count` and `start` are kept by hand, since a loop over `split_inclusive` needs both as well: a word's place starts where the last one ended.
 fn fill(bytes: &[u8], words: &mut [Span; 128]) -> Option<usize>
     requires { ends bytes.now ≡ true }
     ensures filled { Filled bytes.now words.new result }
@@ -48,12 +47,9 @@ fn fill(bytes: &[u8], words: &mut [Span; 128]) -> Option<usize>
 fn first_garbled(bytes: &[u8], words: &[Span]) -> Option<usize>
     ensures { FirstGarbled (texts_at bytes.now words.now) result }
 {
-    for (i, word) in words.iter().enumerate() {
-        if !is_utf8(text_at(bytes, *word)) {
-            return Some(i);
-        }
-    }
-    None
+    words
+        .iter()
+        .position(|word| !is_utf8(text_at(bytes, *word)))
 }
 
 // A table with these bytes in front.
@@ -62,9 +58,7 @@ fn copied(bytes: &[u8]) -> [u8; 1024]
     ensures { take (length bytes.now) result ≡ bytes.now }
 {
     let mut table = [0; 1024];
-    for (i, b) in bytes.iter().enumerate() {
-        table[i] = *b;
-    }
+    table[..bytes.len()].copy_from_slice(bytes);
     table
 }
 
@@ -97,9 +91,7 @@ impl Line {
     pub fn bytes(&self) -> &[u8]
         ensures { result.now ≡ bytes_of self.now }
     {
-        let size = self.size;
-        let all = &self.bytes[..];
-        &all[0..size]
+        front(&self.bytes, self.size)
     }
 
     // The places of the words, of which a part from any word on can be handed on.
@@ -107,9 +99,7 @@ impl Line {
         ensures value { texts_at (bytes_of self.now) result.now ≡ words_of self.now }
         ensures within { Within (bytes_of self.now) (words_of self.now) }
     {
-        let count = self.count;
-        let all = &self.words[..];
-        &all[0..count]
+        front(&self.words, self.count)
     }
 }
 

@@ -51,10 +51,7 @@ impl<'a> Register for TableRegister<'a> {
     }
 
     fn parameter(&self, recipe: u16, place: usize) -> Option<Parameter> {
-        match self.parameter_row(recipe, place) {
-            Some(row) => Some(without_texts(row)),
-            None => None,
-        }
+        self.parameter_row(recipe, place).map(without_texts)
     }
 
     fn long(&self, recipe: u16, name: &[u8]) -> Option<usize> {
@@ -65,19 +62,14 @@ impl<'a> Register for TableRegister<'a> {
         self.letter_place(recipe, code)
     }
 
+    // Kept: this and `long_text` differ in the field alone; a function that takes the field as a closure is longer than both.
     fn default_text(&self, recipe: u16, place: usize) -> Option<&[u8]> {
         let row = self.parameter_row(recipe, place)?;
-        match row.default {
-            Some(span) => Some(text_at(self.image, span)),
-            None => None,
-        }
+        row.default.map(|span| text_at(self.image, span))
     }
 
     fn long_text(&self, recipe: u16, place: usize) -> Option<&[u8]> {
         let row = self.parameter_row(recipe, place)?;
-        match row.long {
-            Some(span) => Some(text_at(self.image, span)),
-            None => None,
-        }
+        row.long.map(|span| text_at(self.image, span))
     }
 }

@@ -1,29 +1,18 @@
 // Look-ups among the recipe, long and letter rows.
-ghost use Rattle.std.specs.Prelude.{◌≡◌, ℕ, List, map, length, take};
+ghost use Rattle.std.specs.Prelude.{◌≡◌, ℕ, List, map, length};
 ghost use Rattle.std.specs.Option.{option_map};
 ghost use Rattle.std.specs.List.{slice_get};
 ghost use Rattle.register.specs.Parameters.{long_place, letter_place, without_texts};
 ghost use Rattle.tree.specs.Rows.{parameter_at};
 ghost use Rattle.tree_register.specs.Derived.{parameters_in};
-ghost use Rattle.tree_register.specs.Signatures.{parameter_of, parameter_kind};
+ghost use Rattle.tree_register.specs.Signatures.{parameter_of};
 
 use crate::table_register::TableRegister;
-use register::parameter::{Parameter, ParameterKind};
-use table::search::find;
+use register::parameter::Parameter;
+use table::search::Table;
+use text::part::front;
 use tree::keys::{LetterKey, LongKey};
-use tree::rows::{ParameterRow, RecipeRow};
-use tree::tables::{LetterTable, LongTable};
-
-// 1 is Plus, 2 is Star, and else a parameter is singular.
-fn kind_of(number: Option<u8>) -> ParameterKind
-    ensures { result ≡ parameter_kind number }
-{
-    match number {
-        Some(1) => ParameterKind::Plus,
-        Some(2) => ParameterKind::Star,
-        _ => ParameterKind::Singular,
-    }
-}
+use tree::rows::ParameterRow;
 
 // A parameter's row without its texts.
 pub(crate) fn without_texts(row: &ParameterRow) -> Parameter
@@ -34,7 +23,7 @@ pub(crate) fn without_texts(row: &ParameterRow) -> Parameter
         flag: row.flag,
         multiple: row.multiple,
         value: row.value,
-        kind: kind_of(row.kind),
+        kind: row.kind,
         has_long: row.long.is_some(),
         letter: row.letter,
         min: row.min,
@@ -43,30 +32,15 @@ pub(crate) fn without_texts(row: &ParameterRow) -> Parameter
     }
 }
 
-// The parameters that a recipe row has.
-fn filled(row: &RecipeRow) -> &[ParameterRow]
-    ensures { result.now ≡ take row.now.count row.now.parameters }
-{
-    let count = row.count;
-    let all = &row.parameters[..];
-    if count < all.len() {
-        &all[0..count]
-    } else {
-        all
-    }
-}
-
 impl<'a> TableRegister<'a> {
     // The recipe's parameters, and none where there is no such recipe.
     fn parameters(&self, recipe: u16) -> &'a [ParameterRow]
         ensures { map parameter_of (map (parameter_at self.now.image.now) result.now) ≡ parameters_in self.now.image.now self.now.recipes.now recipe }
     {
-        let at = recipe as usize;
-        if at < self.recipes.len() {
-            filled(&self.recipes[at])
-        } else {
-            &[]
-        }
+        self.recipes
+            .get(recipe as usize)
+            .map(|row| front(&row.parameters, row.count))
+            .unwrap_or_default()
     }
 
     // How many parameters the recipe has.
@@ -80,41 +54,31 @@ impl<'a> TableRegister<'a> {
     pub(crate) fn parameter_row(&self, recipe: u16, place: usize) -> Option<&'a ParameterRow>
         ensures { option_map (λ x. parameter_of (parameter_at self.now.image.now x.now)) result ≡ slice_get (parameters_in self.now.image.now self.now.recipes.now recipe) place }
     {
-        let rows = self.parameters(recipe);
-        if place < rows.len() {
-            Some(&rows[place])
-        } else {
-            None
-        }
+        self.parameters(recipe).get(place)
     }
 
     // The place of the recipe's parameter with this long name.
     pub(crate) fn long_place(&self, recipe: u16, name: &[u8]) -> Option<usize>
         ensures { result ≡ long_place (parameters_in self.now.image.now self.now.recipes.now recipe) name.now }
     {
-        let table = LongTable {
+        let longs = Table {
             image: self.image,
             rows: self.longs,
         };
-        let key = LongKey { recipe, text: name };
-        match find(&table, key) {
-            Some(row) => Some(row.place as usize),
-            None => None,
-        }
+        let row = longs.find(LongKey { recipe, text: name });
+        row.map(|row| row.place as usize)
     }
 
     // The place of the recipe's parameter with this letter.
+    // Kept: beside `long_place`, since a function over both kinds of rows wants a trait for their place with an impl for each, which is longer than both bodies.
     pub(crate) fn letter_place(&self, recipe: u16, letter: u32) -> Option<usize>
         ensures { result ≡ letter_place (parameters_in self.now.image.now self.now.recipes.now recipe) letter }
     {
-        let table = LetterTable {
+        let letters = Table {
             image: self.image,
             rows: self.letters,
         };
-        let key = LetterKey { recipe, letter };
-        match find(&table, key) {
-            Some(row) => Some(row.place as usize),
-            None => None,
-        }
+        let row = letters.find(LetterKey { recipe, letter });
+        row.map(|row| row.place as usize)
     }
 }

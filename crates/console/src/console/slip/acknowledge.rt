@@ -12,11 +12,7 @@ impl Console {
         ensures law { Adds self.old (Event.acknowledge slip result) self.new }
         ensures refused { Leaves result self.old self.new }
     {
-        if !self.out || !slip.has(self.number, self.next_serial()) {
-            return Err((slip, Refusal::WrongSlip));
-        }
-        slip.spend();
-        self.out = false;
+        self.take_back(slip)?;
         self.at += 1;
         Ok(())
     }

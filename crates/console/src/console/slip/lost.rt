@@ -12,11 +12,6 @@ impl Console {
         ensures law { Adds self.old (Event.lost slip result) self.new }
         ensures refused { Leaves result self.old self.new }
     {
-        if !self.out || !slip.has(self.number, self.next_serial()) {
-            return Err((slip, Refusal::WrongSlip));
-        }
-        slip.spend();
-        self.out = false;
-        Ok(())
+        self.take_back(slip)
     }
 }

@@ -24,26 +24,27 @@ returns-in_err-filled c =
     let p = err_from_is_err_and c.from_residual-in_err-filled.result c.from_residual-in_err-filled.ensures.1 in
     let a = c.in_err-filled.ensures.answer in
     let held = all_held c.in_ok-counts.ensures.reads.says c.if-image-gt-IMAGE_BYTES.false c.if-at-image.false in
-    rw (p.1, p.2, a.1) (Unlawful.shared held a.2)
+    rw (p.1, p.2, a.1) (Unlawful.shared held (rw c.from-recipes.ensures at a.2))
 
 pub returns-in_err-check_modules : goal.returns-in_err-check_modules
 returns-in_err-check_modules c =
     let p = err_from_is_err_and c.from_residual-in_err-check_modules.result c.from_residual-in_err-check_modules.ensures.1 in
     let image = c.args.image.now in
-    let a = c.in_err-check_modules.ensures image in
+    let a = rw (c.front.ensures, c.from-names.ensures, c.from-modules.ensures) at (c.in_err-check_modules.ensures image) in
     let n = c.in_ok-counts.counts in
     let held = all_held c.in_ok-counts.ensures.reads.says c.if-image-gt-IMAGE_BYTES.false c.if-at-image.false in
     let count = filled_count (module_at image) 64 n.modules _ c.read_tree.new.modules c.in_ok-counts.ensures.modules in
-    rw (p.1, p.2, a.1) (Unlawful.unnamed held c.in_ok-filled.ensures.answer.apart (not_once_from image c.read_tree.new.names n.names n.modules _ count a.2))
+    rw (p.1, p.2, a.1) (Unlawful.unnamed held (rw c.from-recipes.ensures at c.in_ok-filled.ensures.answer.apart) (not_once_from image c.read_tree.new.names n.names n.modules _ count a.2))
 
 pub returns : goal.returns
 returns c =
     let image = c.args.image.now in
     let n = c.in_ok-counts.counts in
     let r = c.in_ok-counts.ensures in
-    let a = c.in_ok-filled.ensures.answer in
+    let a = rw c.from-recipes.ensures at c.in_ok-filled.ensures.answer in
     let count = filled_count (module_at image) 64 n.modules _ c.read_tree.new.modules r.modules in
-    let once = once_from image c.read_tree.new.names n.names n.modules _ count (c.in_ok-check_modules.ensures image) in (
+    let once = once_from image c.read_tree.new.names n.names n.modules _ count (rw (c.front.ensures, c.from-names.ensures, c.from-modules.ensures) at (c.in_ok-check_modules.ensures image)) in
+    rw (c.from-modules.ensures, c.from-names.ensures, c.from-recipes.ensures, c.from.ensures) (
       refl,
       record {
         lawful = lawful_from r.reads.says c.if-image-gt-IMAGE_BYTES.false c.if-at-image.false a.apart once;

@@ -1,9 +1,9 @@
-use Rattle.std.proofs.Common.{sym}
-use Rattle.path.specs.Path.{Lacks}
+use Rattle.std.proofs.Common.{rules, sym}
+use Rattle.path.proofs.Along.{default_or_lacks}
 use Rattle.path.proofs.walk.default_of.Goals as goal
 
-pub returns-then-has_recipes : goal.returns-then-has_recipes
-returns-then-has_recipes g c = Lacks.default (sym c.in_default.ensures) (sym c.if-has_recipes.ensures)
-
-pub returns-else-has_recipes : goal.returns-else-has_recipes
-returns-else-has_recipes g c = Lacks.recipes (sym c.in_default.ensures) (sym c.if-has_recipes.ensures)
+pub returns : goal.returns
+returns g c =
+    let names = g.R.Register.names c.args.register.now in
+    default_or_lacks names c.args.«module» c.default.result c.ok_or_else.result _ (sym c.default.ensures) c.ok_or_else.ensures.cases
+    (λ f post. search rules)

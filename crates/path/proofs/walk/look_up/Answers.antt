@@ -1,20 +1,12 @@
-use Rattle.std.proofs.Common.{sym, arith}
-use Rattle.path.proofs.Sequence.{kind_small}
-use Rattle.path.proofs.LookUps.{found_at, passed_at}
+use Rattle.std.proofs.Common.{rules, ap, ◌∙◌, subst}
+use Rattle.std.specs.Iterator.Runs.{ItemsMapTo}
+use Rattle.path.proofs.LookUps.{looks_up}
 use Rattle.path.proofs.walk.look_up.Goals as goal
 
-pub loop-kind-init : goal.loop-kind-init
-loop-kind-init g c = λ k h. absurd (omega arith)
-
-pub returns-in-Some : goal.returns-in-Some
-returns-in-Some g c =
-    found_at (g.R.Register.names c.args.register.now) c.args.«module» c.args.name.now c.loop-kind.kind-index _ c.in-Some.number
-    c.loop-kind-test.true (sym c.in-Some.ensures) c.loop-kind.invariant
-
-pub loop-kind-preserved : goal.loop-kind-preserved
-loop-kind-preserved g c =
-    passed_at (g.R.Register.names c.args.register.now) c.args.«module» c.args.name.now c.loop-kind.kind-index _
-    c.loop-kind-test.true (sym c.in_default.ensures) c.loop-kind.invariant
-
 pub returns : goal.returns
-returns g c = λ kind. c.loop-kind.invariant kind (omega (arith, kind_small kind, c.loop-kind-test.false))
+returns g c =
+    let names = g.R.Register.names c.args.register.now in
+    let run = c.find_map.ensures.runs in
+    let gives = subst (λ rest. ItemsMapTo run.0 (λ y. y.now) rest) (ap (λ s. s.rest.now) run.1 ∙ c.iter.ensures.rest) (c.iter.ensures.runs run.0 run.0.seen) in
+    looks_up names c.args.«module» c.args.name.now _ _ run.0 (λ y. y.now) c.find_map.result gives run.2
+    (λ a r q k. search rules) (λ x k. search rules) (λ x y k. search rules)

@@ -1,15 +1,13 @@
 use Rattle.path.specs.Path.{Stops}
 use Rattle.path.proofs.LookUps.{of_label, of_recipe}
+use Rattle.path.proofs.Along.{nowhere_stops}
 use Rattle.path.proofs.walk.step.Goals as goal
 
-pub returns-then-followed : goal.returns-then-followed
-returns-then-followed g c = Stops.unknown_submodule c.if-followed.true c.in_default.ensures
-
 pub returns-in_default : goal.returns-in_default
-returns-in_default g c = Stops.unknown_recipe c.if-followed.false c.in_default.ensures
+returns-in_default g c = nowhere_stops c.args.name.followed c.unknown.result c.in_default.ensures c.unknown.ensures
 
 pub returns-in-Recipe : goal.returns-in-Recipe
-returns-in-Recipe g c = Stops.recipe_followed c.if-followed-2.true (of_recipe _ _ _ c.in-Some.ensures c.in-Recipe.is)
+returns-in-Recipe g c = Stops.recipe_followed c.if-name.true (of_recipe _ _ _ c.in-Some.ensures c.in-Recipe.is)
 
 pub returns-in-DisabledRecipe : goal.returns-in-DisabledRecipe
 returns-in-DisabledRecipe g c = Stops.disabled_recipe (of_label _ _ _ c.in-Some.ensures c.in-DisabledRecipe.is c.from-label.ensures)

@@ -1,56 +1,51 @@
-use Rattle.std.proofs.Common.{◌≡◌, ◌-◌, ◌≤◌, length, take, drop, Err, sym, ap, ◌∙◌, arith}
+use Rattle.std.proofs.Common.{length, inl, ap, ◌∙◌, arith}
+use Rattle.std.specs.Iterator.Adapters.{enumerate_source, enumerate_count}
 use Rattle.std.specs.Option.{option_map}
-use Rattle.std.proofs.lemmas.List.{take_rest, at_drop_all, length-take, length-drop}
-use Rattle.std.proofs.lemmas.Result.{err_from_is_err_and}
 use Rattle.text.specs.Spans.{text_at}
+use Rattle.reading.specs.Letters.{letters}
+use Rattle.reading.specs.Reading.Waiting.{Nobody}
 use Rattle.reader.specs.Meaning.{values_of}
-use Rattle.reader.specs.Answers.{did_of, waiting_of}
-use Rattle.reader.proofs.LetterRuns.{letters_on, on_start, letter_turn}
+use Rattle.reader.specs.Signatures.{parameters_of}
+use Rattle.reader.specs.Letters.{letters_left}
+use Rattle.reader.specs.declared.letters.SwitchLetter.{SwitchLetter}
+use Rattle.reader.proofs.LetterRuns.{run_on, run_start, marked_few}
 use Rattle.reader.proofs.word.apply_letters.Goals as goal
 
-pub loop-at-init : goal.loop-at-init
-loop-at-init g c =
-    let ps = (g.R.Register.signatures c.args.register.now).parameters c.args.recipe in
-    (omega arith, omega arith, omega arith, λ bytes. on_start ps c.args.word (option_map (text_at bytes) c.args.value) (values_of bytes c.args.values.now) c.args.name.now)
+pub loop-i-init-derived : goal.loop-i-init-derived
+loop-i-init-derived g c =
+    let n = ap enumerate_count c.into_iter-i-iterator.ensures.into_iter_gives ∙ c.enumerate-i-items.ensures.count in
+    let l = ap (λ x. length (letters_left (enumerate_source x))) c.into_iter-i-iterator.ensures.into_iter_gives ∙ ap (λ x. length (letters_left x)) c.enumerate-i-items.ensures.source in
+    let f = marked_few c.args.name.now in
+    ((tt, tt, inl (omega (arith, n, l, c.requires))), tt)
 
-pub returns-in_err-waiting : goal.returns-in_err-waiting
-returns-in_err-waiting g c =
-    let ps = (g.R.Register.signatures c.args.register.now).parameters c.args.recipe in
-    let name = c.args.name.now in let i = c.loop-at.at in let len = c.letter_length-len.result in
-    let rest = take (length name - i) (drop i name) in
-    let p = err_from_is_err_and c.from_residual.result c.from_residual.ensures.1 in
-    let z : len - 0 ≡ len = omega arith in
-    let short : length (take (len - 0) rest) ≤ 4 = omega (arith, length-take (len - 0) rest, c.letter_length-len.ensures.few) in
+pub loop-i-init : goal.loop-i-init
+loop-i-init g c =
+    let ps = parameters_of g.R.Register.signatures c.args.signature.now in
+    let n = ap enumerate_count c.into_iter-i-iterator.ensures.into_iter_gives ∙ c.enumerate-i-items.ensures.count in
+    let e = ap (λ x. letters_left (enumerate_source x)) c.into_iter-i-iterator.ensures.into_iter_gives ∙ ap letters_left c.enumerate-i-items.ensures.source in
+    let l = ap (length {A = SwitchLetter}) e in
     record {
+      room = omega (arith, l);
       runs = λ bytes.
-          ap (λ r. did_of ps bytes r c.apply.new.self) (p.1 ∙ ap Err p.2)
-          ∙ sym (letter_turn ps c.args.word (option_map (text_at bytes) c.args.value) (values_of bytes c.loop-at.values) (waiting_of ps c.loop-at.waiting) c.loop-at.letter name rest (take (len - 0) rest) i len c.letter_code.result c.letter-place.result _ c.loop-at-test.true (take_rest name i) c.letter_length-len.ensures.value c.letter_length-len.ensures.within (ap (λ k. take k rest) z) (c.letter_code.ensures short) c.letter-place.ensures
-          (sym (ap (λ r. did_of ps bytes r c.apply.new.self) c.in_err-waiting.was) ∙ c.apply.ensures.applies ps _ bytes c.called_at-called.ensures))
-          ∙ c.loop-at.invariant.3 bytes;
-      room = omega (arith, c.apply.ensures.room, c.loop-at.invariant.2);
+          let value = option_map (text_at bytes) c.args.value in let vs = values_of bytes c.args.values.now in
+          ap (λ j. run_on ps c.args.word value vs Nobody j (letters_left (enumerate_source c.into_iter-i-iterator.result))) n
+          ∙ ap (run_on ps c.args.word value vs Nobody 0) e
+          ∙ run_start ps c.args.word value vs (letters c.args.name.now);
     }
 
-pub loop-at-preserved : goal.loop-at-preserved
-loop-at-preserved g c =
-    let ps = (g.R.Register.signatures c.args.register.now).parameters c.args.recipe in
-    let name = c.args.name.now in let i = c.loop-at.at in let len = c.letter_length-len.result in
-    let rest = take (length name - i) (drop i name) in
-    let z : len - 0 ≡ len = omega arith in
-    let l : length rest ≡ length name - i = ap length (take_rest name i) ∙ length-drop i name in
-    let short : length (take (len - 0) rest) ≤ 4 = omega (arith, length-take (len - 0) rest, c.letter_length-len.ensures.few) in (
-      omega (arith, c.letter_length-len.ensures.within),
-      omega (arith, c.letter_length-len.ensures.some),
-      omega (arith, c.letter_length-len.ensures.some, c.apply.ensures.room),
-      λ bytes.
-          sym (letter_turn ps c.args.word (option_map (text_at bytes) c.args.value) (values_of bytes c.loop-at.values) (waiting_of ps c.loop-at.waiting) c.loop-at.letter name rest (take (len - 0) rest) i len c.letter_code.result c.letter-place.result _ c.loop-at-test.true (take_rest name i) c.letter_length-len.ensures.value c.letter_length-len.ensures.within (ap (λ k. take k rest) z) (c.letter_code.ensures short) c.letter-place.ensures
-          (sym (ap (λ r. did_of ps bytes r c.apply.new.self) c.in_ok-waiting.was) ∙ c.apply.ensures.applies ps _ bytes c.called_at-called.ensures))
-          ∙ c.loop-at.invariant.3 bytes,
-    )
+pub apply-requires : goal.apply-requires
+apply-requires g c =
+    let f = marked_few c.args.name.now in
+    let e = ap (length {A = SwitchLetter}) c.in-Some.ensures.steps.0 in
+    omega (arith, c.loop-i.invariant.room)
 
-pub returns : goal.returns
-returns g c =
-    let ps = (g.R.Register.signatures c.args.register.now).parameters c.args.recipe in
-    record {
-      runs = λ bytes. sym (at_drop_all (letters_on ps c.args.word (option_map (text_at bytes) c.args.value) (values_of bytes c.loop-at.values) (waiting_of ps c.loop-at.waiting) c.loop-at.letter) c.args.name.now c.loop-at.at c.loop-at-test.false) ∙ c.loop-at.invariant.3 bytes;
-      room = omega arith;
-    }
+pub returns-in_err-waiting-clause-room : goal.returns-in_err-waiting-clause-room
+returns-in_err-waiting-clause-room g c =
+    let f = marked_few c.args.name.now in
+    let e = ap (length {A = SwitchLetter}) c.in-Some.ensures.steps.0 in
+    omega (arith, c.loop-i.invariant.room, c.apply.ensures.room)
+
+pub returns-clause-room : goal.returns-clause-room
+returns-clause-room g c =
+    let f = marked_few c.args.name.now in
+    omega (arith, c.loop-i.invariant.room)

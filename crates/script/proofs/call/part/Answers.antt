@@ -1,13 +1,11 @@
 use Rattle.std.proofs.Common.{sym, refl, ◌∙◌}
-use Rattle.script.proofs.Spaces.{parted_whole, parted_name}
+use Rattle.script.proofs.Spaces.{space_at, spaceless, parted_whole, parted_name}
 use Rattle.script.proofs.call.part.Goals as goal
 
-pub returns-then-at-line : goal.returns-then-at-line
-returns-then-at-line c = record { whole = refl; named = sym c.first_space-at.ensures.value ∙ c.if-at-line.true }
+pub returns-in-Some : goal.returns-in-Some
+returns-in-Some c =
+    let first = space_at c.args.line.now c.in-Some.at (sym c.first_space.ensures ∙ c.in-Some.is) in
+    record { whole = parted_whole c.args.line.now c.in-Some.at first; named = parted_name c.args.line.now c.in-Some.at first }
 
-pub returns : goal.returns
-returns c =
-    let line = c.args.line.now in
-    let at = c.first_space-at.result in
-    let e = c.first_space-at.ensures in
-    record { whole = parted_whole line at e.value e.within c.if-at-line.false; named = parted_name line at e.value e.within c.if-at-line.false }
+pub returns-in-None : goal.returns-in-None
+returns-in-None c = record { whole = refl; named = spaceless c.args.line.now (sym c.first_space.ensures ∙ c.in-None.is) }

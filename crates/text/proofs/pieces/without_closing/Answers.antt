@@ -1,18 +1,10 @@
-use Rattle.std.proofs.Common.{Some, None, sym}
-use Rattle.std.proofs.lemmas.Slice.Eq.{strip_suffix_is}
-use Rattle.text.specs.Pieces.{separator, Unclosed}
-use Rattle.text.proofs.Joins.{unclosed_is}
+use Rattle.std.proofs.Common.{◌≡◌, sym, subst, rules}
+use Rattle.text.specs.Pieces.{Unclosed, unclosed}
+use Rattle.text.proofs.Joins.{unclosed_does}
 use Rattle.text.proofs.pieces.without_closing.Goals as goal
-use Rattle.std.proofs.lemmas.Bool.Decides.{Decides-eqb}
 
-pub returns-in-Some : goal.returns-in-Some
-returns-in-Some c =
-    let e = strip_suffix_is Decides-eqb c.args.word.now separator (Some c.in-Some.front) c.in-Some.ensures.cases in
-    let u : Unclosed c.args.word.now c.in-Some.front.now = Unclosed.closed e in
-    record { value = sym (unclosed_is u); means = u }
-
-pub returns-in-None : goal.returns-in-None
-returns-in-None c =
-    let e = strip_suffix_is Decides-eqb c.args.word.now separator None c.in-None.ensures.cases in
-    let u : Unclosed c.args.word.now c.args.word.now = Unclosed.bare e in
-    record { value = sym (unclosed_is u); means = u }
+pub returns-clause-means : goal.returns-clause-means
+returns-clause-means c =
+    let w = c.args.word.now in
+    let e : c.unwrap_or.result.now ≡ unclosed w = search rules in
+    subst (Unclosed w) (sym e) (unclosed_does w)

@@ -1,24 +1,17 @@
-use Rattle.std.proofs.Common.{◌<◌, length, sym, refl, ap, ◌∙◌, subst, arith, length-drop}
-use mathlib.Core.Bool.{false≢true}
-use Rattle.std.proofs.lemmas.List.{take_rest, drop_all}
-use Rattle.text.specs.Lead.{front}
+use Rattle.std.proofs.Common.{sym, subst, ◌∙◌}
+use Rattle.std.proofs.lemmas.List.{take_rest}
 use Rattle.text.specs.Utf8.{Utf8}
-use Rattle.text.proofs.Grammar.{none_here, behind, before}
+use Rattle.text.proofs.Grammar.{before, behind, ended}
 use Rattle.text.proofs.utf8.is_utf8.Goals as goal
 
-pub returns-then-step-eq0 : goal.returns-then-step-eq0
-returns-then-step-eq0 c =
-    let is = c.char_length-step.ensures.value ∙ ap front (take_rest c.args.bytes.now c.loop-at.at) in
-    (λ e. absurd (false≢true e), λ o. absurd (none_here c.args.bytes.now c.loop-at.at _ c.loop-at-test.true is c.if-step-eq0.true (c.loop-at.invariant.2 o)))
-
-pub loop-at-preserved : goal.loop-at-preserved
-loop-at-preserved c =
-    let is = c.char_length-step.ensures.value ∙ ap front (take_rest c.args.bytes.now c.loop-at.at) in
-    let some : 0 < c.char_length-step.result = omega arith in (
-      omega (arith, c.char_length-step.ensures.within, ap length (take_rest c.args.bytes.now c.loop-at.at), length-drop c.loop-at.at c.args.bytes.now),
-      λ o. c.loop-at.invariant.1 (before c.args.bytes.now c.loop-at.at _ c.loop-at-test.true is some o),
-      λ o. behind c.args.bytes.now c.loop-at.at _ c.loop-at-test.true is (c.loop-at.invariant.2 o),
-    )
+pub loop-len-preserved : goal.loop-len-preserved
+loop-len-preserved c =
+    let rest = c.loop-len.rest.now in
+    let is = c.in-Some.ensures.value in
+    let e = take_rest rest c.in-Some.len in
+    (λ u. c.loop-len.invariant.0 (before rest _ is.0 is.1 (subst Utf8 e u)), λ u. subst Utf8 (sym e) (behind rest _ is.0 is.1 (c.loop-len.invariant.1 u)))
 
 pub returns : goal.returns
-returns c = (λ _. c.loop-at.invariant.1 (subst Utf8 (sym (drop_all c.loop-at.at c.args.bytes.now c.loop-at-test.false)) Utf8.none), λ _. refl)
+returns c =
+    let d = ended c.loop-len.rest.now c.in_default.ensures.value in
+    (λ e. c.loop-len.invariant.0 (d.0 (sym c.is_empty.ensures ∙ e)), λ u. c.is_empty.ensures ∙ d.1 (c.loop-len.invariant.1 u))

@@ -1,13 +1,9 @@
-use Rattle.std.proofs.Common.{◌≡◌, ◌∷◌, take, ap, ◌∙◌}
 use Rattle.tree.specs.Rows.{parameter_at}
-use Rattle.whole.specs.Entries.{key_of, entry, key_by}
-use Rattle.whole.proofs.Places.{among_weaker}
-use Rattle.whole.proofs.Stepping.{mapped_some}
+use Rattle.whole.proofs.Stepping.{listed_by}
 use Rattle.whole.proofs.derive.list_parameter.Goals as goal
 
-pub returns-else-insert : goal.returns-else-insert
-returns-else-insert g c =
-    let said = g.T.Listing.said c.args.image.now in
-    let name = g.T.Listing.name (parameter_at c.args.image.now c.args.parameter.now) in
-    let m = mapped_some (entry c.args.recipe c.args.place) name (said c.in-Some.row) (c.in-Some.ensures c.args.image.now) in
-    (m.0, m.1, among_weaker (λ x. key_by said x ≡ key_by said c.in-Some.row) (λ x. key_by said x ≡ c.args.recipe ∷ m.0) (λ x h. h ∙ ap key_of m.2) (take c.args.filled c.args.rows.now) c.if-insert.ensures)
+pub returns-in-Some : goal.returns-in-Some
+returns-in-Some g c =
+    let image = c.args.image.now in
+    listed_by (g.T.Listing.said image) (g.T.Ranked.keyed image) (g.met.T.Listing.found_by image) c.args.rows.now c.insert.new.rows c.args.filled c.args.recipe c.args.place c.in-Some.row
+    (g.T.Listing.name (parameter_at image c.args.parameter.now)) (c.in-Some.ensures image) c.insert.result c.insert.ensures

@@ -1,12 +1,10 @@
-use Rattle.std.proofs.Common.{Some, None, ap, ◌∙◌}
+use Rattle.std.proofs.Common.{◌≡◌, Bor, List, ℕ, sym, rules, ◌∙◌}
+use Rattle.std.specs.Option.{option_map}
 use Rattle.reader.specs.Meaning.{source_text}
-use Rattle.console.proofs.Sources.{told_at}
+use Rattle.console.proofs.Sources.{first_text_lem}
 use Rattle.console.proofs.console.Console.text_of.Goals as goal
 
-pub returns-in-None : goal.returns-in-None
-returns-in-None c = told_at _ _ _ _ _ None c.in-None.ensures c.values-rows.ensures
-
-pub returns-in-Some : goal.returns-in-Some
-returns-in-Some c =
-    ap Some (c.source_text.ensures ∙ ap (λ b. source_text b c.in-Some.source) c.line-line.ensures)
-    ∙ told_at _ _ _ _ _ (Some c.in-Some.source) c.in-Some.ensures c.values-rows.ensures
+pub returns : goal.returns
+returns c =
+    let found : option_map (λ (x : Bor (List ℕ)). x.now) c.map.result ≡ option_map (source_text c.line-line.result.now) c.first_source.result = search rules in
+    found ∙ rw (c.line-line.ensures, c.first_source.ensures, c.values-rows.ensures) (sym (first_text_lem _ c.args.row.first c.args.parameter _))

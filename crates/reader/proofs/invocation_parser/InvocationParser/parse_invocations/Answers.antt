@@ -5,7 +5,7 @@ use Rattle.text.specs.Line.{closed}
 use Rattle.text.specs.Lines.{bytes_of, words_of}
 use Rattle.text.specs.Spans.{text_at, texts_at}
 use Rattle.reader.specs.Rest.{AllTold}
-use Rattle.reader.proofs.Turns.{line_told}
+use Rattle.reader.proofs.Turns.{line_told, each_told}
 use Rattle.reader.proofs.invocation_parser.InvocationParser.parse_invocations.Goals as goal
 
 pub parse_all-requires : goal.parse_all-requires
@@ -23,7 +23,11 @@ returns g c =
     let line = c.args.line.now in
     let names = g.R.Register.names c.args.register.now in let s = g.R.Register.signatures c.args.register.now in let accepts = g.J.Judge.accepts c.args.judge.now in
     let same = ap (λ (b : List ℕ). texts_at b c.words-words.result.now) c.bytes-bytes.ensures ∙ c.words-words.ensures.value in
-    let told = g.T.RefusingTaker.told c.parse_all.new.taker in
-    line_told names s accepts g.T.RefusingTaker.refuses told (bytes_of line) (words_of line) c.parse_all.result
-    (subst (λ (ws : List Text). AllTold names s accepts g.T.RefusingTaker.refuses told (bytes_of line) ws c.parse_all.result) same
-    (subst (λ (b : List ℕ). AllTold names s accepts g.T.RefusingTaker.refuses told b (texts_at c.bytes-bytes.result.now c.words-words.result.now) c.parse_all.result) c.bytes-bytes.ensures c.parse_all.ensures))
+    let told = g.T.Taker.told c.parse_all.new.taker in
+    let all = subst (λ (ws : List Text). AllTold names s accepts g.T.Taker.refuses told (bytes_of line) ws c.parse_all.result) same
+    (subst (λ (b : List ℕ). AllTold names s accepts g.T.Taker.refuses told b (texts_at c.bytes-bytes.result.now c.words-words.result.now) c.parse_all.result) c.bytes-bytes.ensures c.parse_all.ensures.all) in
+    record {
+      since = c.parse_all.ensures.since;
+      line = line_told names s accepts g.T.Taker.refuses told (bytes_of line) (words_of line) c.parse_all.result all;
+      each = λ never. each_told names s accepts g.T.Taker.refuses told (bytes_of line) (words_of line) c.parse_all.result never all;
+    }

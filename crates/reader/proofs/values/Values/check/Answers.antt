@@ -3,12 +3,13 @@ use Rattle.std.proofs.lemmas.Result.{err_from_is_err_and}
 use Rattle.refusal.specs.declared.Refusal.{Refusal}
 use Rattle.reading.specs.Model.{else!, first_of, check_option, check_plain, check_sound}
 use Rattle.reader.specs.Meaning.{values_of}
+use Rattle.reader.specs.Signatures.{parameters_of}
 use Rattle.reader.specs.Counts.{fault_of}
 use Rattle.reader.proofs.values.Values.check.Goals as goal
 
 pub returns-in_err-check_options : goal.returns-in_err-check_options
 returns-in_err-check_options g c =
-    let ps = (g.R.Register.signatures c.args.register.now).parameters c.args.recipe in
+    let ps = parameters_of g.R.Register.signatures c.args.signature.now in
     let bytes = c.args.bytes.now in let vs = values_of bytes c.args.self.now in
     let first = first_of (check_option vs) 0 ps in let second = check_plain vs c.args.found ps in let third = first_of (check_sound (g.J.Judge.accepts c.args.judge.now) vs) 0 ps in
     let p = err_from_is_err_and c.from_residual.result c.from_residual.ensures.1 in
@@ -16,7 +17,7 @@ returns-in_err-check_options g c =
 
 pub returns-in_err-check_plain : goal.returns-in_err-check_plain
 returns-in_err-check_plain g c =
-    let ps = (g.R.Register.signatures c.args.register.now).parameters c.args.recipe in
+    let ps = parameters_of g.R.Register.signatures c.args.signature.now in
     let bytes = c.args.bytes.now in let vs = values_of bytes c.args.self.now in
     let first = first_of (check_option vs) 0 ps in let second = check_plain vs c.args.found ps in let third = first_of (check_sound (g.J.Judge.accepts c.args.judge.now) vs) 0 ps in
     let p = err_from_is_err_and c.from_residual-in_err-check_plain.result c.from_residual-in_err-check_plain.ensures.1 in
@@ -26,7 +27,7 @@ returns-in_err-check_plain g c =
 
 pub returns : goal.returns
 returns g c =
-    let ps = (g.R.Register.signatures c.args.register.now).parameters c.args.recipe in
+    let ps = parameters_of g.R.Register.signatures c.args.signature.now in
     let bytes = c.args.bytes.now in let vs = values_of bytes c.args.self.now in
     let first = first_of (check_option vs) 0 ps in let second = check_plain vs c.args.found ps in let third = first_of (check_sound (g.J.Judge.accepts c.args.judge.now) vs) 0 ps in
     c.check_values.ensures

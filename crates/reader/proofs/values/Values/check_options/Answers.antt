@@ -1,45 +1,20 @@
-use Rattle.std.proofs.Common.{sym, ap, ◌∙◌, arith, rules}
-use Rattle.reading.specs.Model.{first_of, check_option}
-use Rattle.reader.specs.Meaning.{held, values_of}
-use Rattle.reader.proofs.Places.{there, gone}
-use Rattle.reader.proofs.Counting.{first_pass, first_hit, option_missing, no_option, option_there}
+use Rattle.std.proofs.Common.{rules, tests}
+use Rattle.std.proofs.lemmas.Iterator.Consumers.{YieldsList-from_first}
+use Rattle.std.proofs.lemmas.Iterator.Search.{find_from_yields_List}
+use Rattle.reader.specs.Signatures.{parameters_of, left_of, called_from}
+use Rattle.reader.proofs.Counting.{lacks, first_lacking}
 use Rattle.reader.proofs.values.Values.check_options.Goals as goal
-use Rattle.reader.proofs.values.Values.check_options.Goals.{else-is_option-via-then-is_option+else-is_missing, else-is_option-via-else-is_option}
 
-pub overflow_add-place : goal.overflow_add-place
-overflow_add-place g c =
-    let ps = (g.R.Register.signatures c.args.register.now).parameters c.args.recipe in
-    let few = g.R.Register.few c.args.register.now c.args.recipe in
-    let t = there ps c.loop-parameter.place c.in-Some.parameter c.in-Some.ensures in let within = t.within in
-    search rules
+pub returns-in-Some : goal.returns-in-Some
+returns-in-Some g c =
+    let ps = parameters_of g.R.Register.signatures c.args.signature.now in
+    let rows = c.args.self.now.rows.items in
+    let e = find_from_yields_List (lacks rows) c.find-missing.new.self _ c.find-missing.result c.find-missing.ensures.ran (YieldsList-from_first (λ x. x) (left_of g.R.Register.signatures) {s = c.parameters.result} (called_from 0 ps) c.parameters.ensures) (λ x b q k. search (rules, tests)) in
+    λ bytes. first_lacking bytes rows ps _ _ c.in-Some.is e
 
-pub loop-parameter-smaller : goal.loop-parameter-smaller
-loop-parameter-smaller g c =
-    let ps = (g.R.Register.signatures c.args.register.now).parameters c.args.recipe in
-    let few = g.R.Register.few c.args.register.now c.args.recipe in
-    let t = there ps c.loop-parameter.place c.in-Some.parameter c.in-Some.ensures in let within = t.within in
-    omega arith
-
-pub returns-then-is_missing : goal.returns-then-is_missing
-returns-then-is_missing g c =
-    let ps = (g.R.Register.signatures c.args.register.now).parameters c.args.recipe in
-    let few = g.R.Register.few c.args.register.now c.args.recipe in
-    let t = there ps c.loop-parameter.place c.in-Some.parameter c.in-Some.ensures in let within = t.within in
-    λ bytes. first_hit ps c.loop-parameter.place c.in-Some.parameter t (check_option (values_of bytes c.args.self.now)) _ (option_missing ps c.loop-parameter.place c.in-Some.parameter t bytes (held c.args.self.now) (sym c.is_option.ensures ∙ c.if-is_option.true) (sym c.is_missing.ensures ∙ c.if-is_missing.true)) ∙ c.loop-parameter.invariant bytes
-
-pub loop-parameter-preserved : goal.loop-parameter-preserved
-loop-parameter-preserved g c =
-    let ps = (g.R.Register.signatures c.args.register.now).parameters c.args.recipe in
-    let few = g.R.Register.few c.args.register.now c.args.recipe in
-    let t = there ps c.loop-parameter.place c.in-Some.parameter c.in-Some.ensures in let within = t.within in
-    λ bytes. first_pass ps c.loop-parameter.place c.in-Some.parameter t (check_option (values_of bytes c.args.self.now))
-    (elim c.else-is_option.branch [
-      | else-is_option-via-then-is_option+else-is_missing w ↦ option_there ps c.loop-parameter.place c.in-Some.parameter t bytes (held c.args.self.now) (sym w.is_missing.ensures ∙ w.if-is_missing.false)
-      | else-is_option-via-else-is_option w ↦ no_option ps c.loop-parameter.place c.in-Some.parameter t bytes (held c.args.self.now) (sym c.is_option.ensures ∙ w.if-is_option.false)
-    ]) ∙ c.loop-parameter.invariant bytes
-
-pub returns : goal.returns
-returns g c =
-    let ps = (g.R.Register.signatures c.args.register.now).parameters c.args.recipe in
-    let few = g.R.Register.few c.args.register.now c.args.recipe in
-    λ bytes. sym (ap (first_of (check_option (values_of bytes c.args.self.now)) c.loop-parameter.place) (gone ps c.loop-parameter.place c.parameter.result c.in_default.is c.parameter.ensures)) ∙ c.loop-parameter.invariant bytes
+pub returns-in-None : goal.returns-in-None
+returns-in-None g c =
+    let ps = parameters_of g.R.Register.signatures c.args.signature.now in
+    let rows = c.args.self.now.rows.items in
+    let e = find_from_yields_List (lacks rows) c.find-missing.new.self _ c.find-missing.result c.find-missing.ensures.ran (YieldsList-from_first (λ x. x) (left_of g.R.Register.signatures) {s = c.parameters.result} (called_from 0 ps) c.parameters.ensures) (λ x b q k. search (rules, tests)) in
+    λ bytes. first_lacking bytes rows ps _ _ c.in-None.is e

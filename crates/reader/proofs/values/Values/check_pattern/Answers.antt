@@ -1,7 +1,7 @@
 use Rattle.std.proofs.Common.{List, sym, ap, ◌∙◌}
 use Rattle.reading.specs.Reading.{group}
 use Rattle.reading.specs.Model.{check_pattern}
-use Rattle.reader.specs.Meaning.{held, values_of}
+use Rattle.reader.specs.Meaning.{values_of}
 use Rattle.reader.specs.Counts.{first_rejected}
 use Rattle.reader.specs.declared.source.ValueRow.{ValueRow}
 use Rattle.reader.proofs.Counting.{mismatch, no_pattern_lem, pattern_is}
@@ -16,10 +16,10 @@ pub returns-in-Some-first_rejected : goal.returns-in-Some-first_rejected
 returns-in-Some-first_rejected g c =
     let accepts = g.J.Judge.accepts c.args.judge.now in let vs = group c.args.place (values_of c.args.bytes.now c.args.self.now) in
     let e = c.in-Some-first_rejected.ensures ∙ ap (λ (rows : List ValueRow). first_rejected (accepts c.in-Some.pattern) c.args.bytes.now c.args.place rows) c.rows.ensures in
-    ap (mismatch c.args.place) e ∙ pattern_is accepts c.in-Some.pattern c.args.bytes.now c.args.place (held c.args.self.now) ∙ sym (ap (λ o. check_pattern accepts c.args.place o vs) c.in-Some.is)
+    ap (mismatch c.args.place) e ∙ pattern_is accepts c.in-Some.pattern c.args.bytes.now c.args.place c.args.self.now.rows.items ∙ sym (ap (λ o. check_pattern accepts c.args.place o vs) c.in-Some.is)
 
 pub returns-in-None : goal.returns-in-None
 returns-in-None g c =
     let accepts = g.J.Judge.accepts c.args.judge.now in let vs = group c.args.place (values_of c.args.bytes.now c.args.self.now) in
     let e = c.in-None.ensures ∙ ap (λ (rows : List ValueRow). first_rejected (accepts c.in-Some.pattern) c.args.bytes.now c.args.place rows) c.rows.ensures in
-    ap (mismatch c.args.place) e ∙ pattern_is accepts c.in-Some.pattern c.args.bytes.now c.args.place (held c.args.self.now) ∙ sym (ap (λ o. check_pattern accepts c.args.place o vs) c.in-Some.is)
+    ap (mismatch c.args.place) e ∙ pattern_is accepts c.in-Some.pattern c.args.bytes.now c.args.place c.args.self.now.rows.items ∙ sym (ap (λ o. check_pattern accepts c.args.place o vs) c.in-Some.is)

@@ -1,13 +1,10 @@
-use Rattle.std.proofs.Common.{Some, None}
+use Rattle.std.proofs.Common.{◌≡◌, ◌∙◌, rules}
+use Rattle.std.specs.Option.{option_map}
 use Rattle.tree_register.proofs.LookUps.{letter_found}
 use Rattle.tree_register.proofs.table_register.TableRegister.letter_place.Goals as goal
 
-pub returns-in-Some : goal.returns-in-Some
-returns-in-Some c =
+pub returns : goal.returns
+returns c =
     let s = c.args.self.now in
-    letter_found s.image.now s.recipes.now s.longs.now s.letters.now s.longs_ascend s.longs_told s.letters_ascend s.letters_told c.args.recipe s.letters_right c.args.letter (Some c.in-Some.row.now) c.in-Some.ensures
-
-pub returns-in-None : goal.returns-in-None
-returns-in-None c =
-    let s = c.args.self.now in
-    letter_found s.image.now s.recipes.now s.longs.now s.letters.now s.longs_ascend s.longs_told s.letters_ascend s.letters_told c.args.recipe s.letters_right c.args.letter None c.in-None.ensures
+    let place : c.map.result ≡ option_map (λ row. row.place) (option_map (λ x. x.now) c.find-row.result) = search rules in
+    place ∙ letter_found s.image.now s.recipes.now s.longs.now s.letters.now s.longs_ascend s.longs_told s.letters_ascend s.letters_told c.args.recipe s.letters_right c.args.letter (option_map (λ x. x.now) c.find-row.result) c.find-row.ensures

@@ -44,7 +44,7 @@ impl Taker for Book {
 
     ghost refuses = { λ _. false };
 
-    ghost since = { λ _ _. Unit {0} };
+    ghost since = { λ _ _ _. Unit {0} };
 
     fn start(&mut self, bytes: &[u8]) {
         put(&mut self.bytes, 0, bytes);

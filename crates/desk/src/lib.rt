@@ -20,12 +20,29 @@ mod fault;
 mod options;
 mod tree_calls;
 
+// Reads a script line without its end; false where there is none.
+fn next_line(input: &mut impl BufRead, line: &mut Vec<u8>) -> std::io::Result<bool> {
+    line.clear();
+    if input.read_until(b'\n', line)? == 0 {
+        return Ok(false);
+    }
+    if line.ends_with(b"\n") {
+        let _ = line.pop();
+    }
+    Ok(true)
+}
+
 // Answers the calls of the script, and tells at its end what has been done.
 fn run<R: Register, J: Judge>(rt: &HostRuntime, register: &R, judge: &J) -> anyhow::Result<()> {
     let heap = rt.alloc();
     let mut desk = Desk::new(heap, register, judge);
-    for line in BufReader::new(heap, rt.stdin())?.split(heap, b'\n') {
-        let line = line?;
+    let mut input = BufReader::new(heap, rt.stdin())?;
+    let mut line = Vec::new(heap);
+    // Kept: one buffer for all lines, since `split` makes a new one for each, and skips a comment in twice the time.
+    for _ in 0..u64::MAX {
+        if !next_line(&mut input, &mut line)? {
+            break;
+        }
         if !is_skipped(line.as_slice()) {
             rt.println(desk.answer(line.as_slice())?)?;
         }

@@ -28,15 +28,15 @@ fn read_judge(rest: &[u8]) -> Option<(u8, &[u8])> {
 // Kept: the words are those of this answer alone, so a match here is plainer than a type that wraps a kind to print it.
 fn kind_name(kind: ParameterKind) -> &'static str {
     match kind {
-        ParameterKind::Singular => "singular",
-        ParameterKind::Plus => "plus",
-        ParameterKind::Star => "star",
+        ParameterKind::Singular => " | singular",
+        ParameterKind::Plus => " | plus",
+        ParameterKind::Star => " | star",
     }
 }
 
 fn push_if(out: &mut String, name: &str, stands: bool) -> Result<(), AllocError> {
     if stands {
-        write!(out, " {name}")?;
+        out.push_str(name)?;
     }
     Ok(())
 }
@@ -47,7 +47,8 @@ fn push_value<T: fmt::Display + Copy>(
     value: Option<T>,
 ) -> Result<(), AllocError> {
     if let Some(value) = value {
-        write!(out, " {name}={value}")?;
+        out.push_str(name)?;
+        out.write(value).or(Err(AllocError))?;
     }
     Ok(())
 }
@@ -65,17 +66,16 @@ fn push_parameter<R: Register>(
     let Some(parameter) = register.parameter(recipe, place) else {
         return Ok(());
     };
-    let kind = kind_name(parameter.kind);
-    write!(out, " | {kind}")?;
-    push_if(out, "flag", parameter.flag)?;
-    push_if(out, "multiple", parameter.multiple)?;
-    push_if(out, "value", parameter.value)?;
-    push_text(out, "default", register.default_text(recipe, place))?;
-    push_text(out, "long", register.long_text(recipe, place))?;
-    push_value(out, "letter", parameter.letter)?;
-    push_value(out, "min", parameter.min)?;
-    push_value(out, "max", parameter.max)?;
-    push_value(out, "pattern", parameter.pattern)
+    out.push_str(kind_name(parameter.kind))?;
+    push_if(out, " flag", parameter.flag)?;
+    push_if(out, " multiple", parameter.multiple)?;
+    push_if(out, " value", parameter.value)?;
+    push_text(out, " default=", register.default_text(recipe, place))?;
+    push_text(out, " long=", register.long_text(recipe, place))?;
+    push_value(out, " letter=", parameter.letter)?;
+    push_value(out, " min=", parameter.min)?;
+    push_value(out, " max=", parameter.max)?;
+    push_value(out, " pattern=", parameter.pattern)
 }
 
 impl<R: Register, J: Judge> Desk<'_, R, J> {

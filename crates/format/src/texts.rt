@@ -30,6 +30,7 @@ impl Cursor<'_> {
         let at = self.at;
         let len = self.read_number::<u8>()? as usize;
         if self.left() < len {
+            self.at = at;
             return Err(Refusal::FieldCutOff { at });
         }
         let start = self.at;

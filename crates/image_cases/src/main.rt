@@ -19,9 +19,17 @@ fn image_of(heap: Global, line: &[u8]) -> anyhow::Result<Vec<u8>> {
 
 fn run(rt: &HostRuntime) -> anyhow::Result<()> {
     let heap = rt.alloc();
+    let mut input = BufReader::new(heap, rt.stdin())?;
+    let mut line = Vec::new(heap);
     let mut tables = Tables::new();
-    for line in BufReader::new(heap, rt.stdin())?.split(heap, b'\n') {
-        let image = image_of(heap, line?.as_slice())?;
+    // Kept: a loop by hand, since each line loses its last byte, also one that has no line end, which `split` would leave whole.
+    for _ in 0..u64::MAX {
+        line.clear();
+        if input.read_until(b'\n', &mut line)? == 0 {
+            break;
+        }
+        let _ = line.pop();
+        let image = image_of(heap, line.as_slice())?;
         let loaded = load(image.as_slice(), &mut tables);
         let known = loaded.register.modules();
         println!(rt; "{loaded} | {known}")?;

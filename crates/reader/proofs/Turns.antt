@@ -67,6 +67,11 @@ module _ (names : NameMeaning) (s : SignatureMeaning) (judge : JudgeMeaning) (re
 only_reading : (names : NameMeaning) (s : SignatureMeaning) (judge : JudgeMeaning) (words : List Text) (answer : Result Reading Refusal) → ((walk : List Text → Result Path Refusal) → Walks names walk → answer ≡ read_line walk s judge words) → OnlyReading names s judge words answer
 only_reading names s judge words answer h = subst (OnlyReading names s judge words) (sym (h (path_of names) (answer_does names))) (model_only names s judge (path_of names) (answer_does names) words)
 
+-- what was told, without what the taker keeps besides
+pub told_alone : {U : Type 0} (names : NameMeaning) (s : SignatureMeaning) (judge : JudgeMeaning) (refuses : Refusal → Bool) (told : List ℕ → List ToldOrder → Type 0) (since : List ToldOrder → Type 0) (bytes : List ℕ) (words : List Text) (r : Result U Refusal) → AllTold names s judge refuses (λ b os. told b os × since os) bytes words r → AllTold names s judge refuses told bytes words r
+told_alone names s judge refuses told since bytes words (Ok u) t = (t.0, t.1.0, t.2, t.3)
+told_alone names s judge refuses told since bytes words (Err f) t = t
+
 pub line_told : {U : Type 0} (names : NameMeaning) (s : SignatureMeaning) (judge : JudgeMeaning) (refuses : Refusal → Bool) (told : List ℕ → List ToldOrder → Type 0) (bytes : List ℕ) (words : List Text) (r : Result U Refusal) → AllTold names s judge refuses told bytes words r → LineTold names s judge refuses told bytes words r
 line_told names s judge refuses told bytes words (Ok u) t = (t.0, t.1, t.2, only_reading names s judge words (Ok (reading_told s bytes t.0)) t.3)
 line_told names s judge refuses told bytes words (Err f) (inl r) = inl r

@@ -70,3 +70,12 @@ pub record UpTo (bytes : List ℕ) (words : List Span) (first : ℕ) (os : List 
 
 abbrev pub Begun : (List ℕ → List ToldOrder → Type 0) → List ℕ → List Span → ℕ → Type 0
 Begun told bytes words first = (os : List ToldOrder) × told bytes os × UpTo bytes words first os
+
+-- a taker was told these orders of a line, and stands so beside how it stood before the line began
+abbrev pub ToldSince : {T : Type 0} → (T → List ℕ → List ToldOrder → Type 0) → (T → T → List ToldOrder → Type 0) → T → T → List ℕ → List ToldOrder → Type 0
+ToldSince told since before after bytes os = told after bytes os × since before after os
+
+-- an order that was taken counts among those since the line began, and one that was refused does not
+abbrev pub Counts : {U : Type 0} → (List ToldOrder → Type 0) → (List ToldOrder → Type 0) → ToldOrder → Result U Refusal → Type 0
+Counts before after o (Ok u) = (os : List ToldOrder) → before os → after (os ++ o ∷ [])
+Counts before after o (Err f) = (os : List ToldOrder) → before os → after os

@@ -1,5 +1,5 @@
 // The values of an order so far.
-ghost use Rattle.std.specs.Prelude.{◌≡◌, ◌<◌, [], ◌∷◌, ◌++◌, length};
+ghost use Rattle.std.specs.Prelude.{◌≡◌, ◌<◌, ◌≤◌, [], ◌∷◌, ◌++◌, length};
 ghost use Rattle.reader.specs.Meaning.{any_to};
 
 use crate::source::{Source, ValueRow};
@@ -22,7 +22,8 @@ impl Values {
 
     // The values so far.
     pub fn rows(&self) -> &[ValueRow]
-        ensures { result.now ≡ self.now.rows.items }
+        ensures value { result.now ≡ self.now.rows.items }
+        ensures few { length result.now ≤ 1024 }
     {
         self.rows.as_slice()
     }

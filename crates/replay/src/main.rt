@@ -19,8 +19,15 @@ fn run(rt: &HostRuntime) -> anyhow::Result<()> {
     let mut parser = InvocationParser::new();
     let mut book = Book::new();
     let mut checked = None;
-    for line in BufReader::new(heap, rt.stdin())?.split(heap, b'\n') {
-        let line = line?;
+    let mut input = BufReader::new(heap, rt.stdin())?;
+    let mut line = Vec::new(heap);
+    // Kept: a loop by hand, since each line loses its last byte, also one that has no line end, which `split` would leave whole.
+    for _ in 0..u64::MAX {
+        line.clear();
+        if input.read_until(b'\n', &mut line)? == 0 {
+            break;
+        }
+        let _ = line.pop();
         let Call { name, rest } = part(line.as_slice());
         let rest = rest.unwrap_or(b"");
         match (name, &checked) {

@@ -36,7 +36,7 @@ is_less Less h = refl
 is_less Equal h = absurd (true≢false (sym h))
 is_less Greater h = absurd (true≢false (sym h))
 
-turn : (a b : List ℕ) → ranked a b ≡ Less → ranked b a ≡ Greater
+pub turn : (a b : List ℕ) → ranked a b ≡ Less → ranked b a ≡ Greater
 turn a b h = (lists_total nat_cmp_total).antisymm b a ∙ ap ordering_reverse h
 
 pub turn_back : (a b : List ℕ) → ranked a b ≡ Greater → ranked b a ≡ Less

@@ -9,6 +9,7 @@ ghost use Rattle.tree.specs.Keys.{name_key, name_parts, long_key, long_parts, le
 
 use crate::rows::{LetterRow, LongRow, NameRow};
 use register::kind::Kind;
+use std::cmp::Ordering;
 use table::keyed::{Keyed, Parts, Ranked};
 use text::span::texts::text_at;
 
@@ -38,18 +39,43 @@ impl<'k> Parts for NameKey<'k> {
     ghost parts = { name_parts };
 
     ghost in_order = { λ a b. ap (λ o. ordering_then (nat_cmp a.«module» b.«module») (ordering_then o (slice_cmp nat_cmp a.text.now b.text.now))) (kinds_in_order a.kind b.kind) };
+
+    // Kept: by hand, here and below, since the derived order looks at all parts of both keys, which makes a look-up half as long again.
+    fn compare(&self, other: &NameKey<'k>) -> Ordering {
+        match self.module.cmp(&other.module) {
+            Ordering::Equal => match self.kind.cmp(&other.kind) {
+                Ordering::Equal => self.text.cmp(&other.text),
+                apart => apart,
+            },
+            apart => apart,
+        }
+    }
 }
 
 impl<'k> Parts for LongKey<'k> {
     ghost parts = { long_parts };
 
     ghost in_order = { λ a b. refl };
+
+    fn compare(&self, other: &LongKey<'k>) -> Ordering {
+        match self.recipe.cmp(&other.recipe) {
+            Ordering::Equal => self.text.cmp(&other.text),
+            apart => apart,
+        }
+    }
 }
 
 impl Parts for LetterKey {
     ghost parts = { letter_parts };
 
     ghost in_order = { λ a b. ap (ordering_then (nat_cmp a.recipe b.recipe)) (ranked_alone a.letter b.letter) };
+
+    fn compare(&self, other: &LetterKey) -> Ordering {
+        match self.recipe.cmp(&other.recipe) {
+            Ordering::Equal => self.letter.cmp(&other.letter),
+            apart => apart,
+        }
+    }
 }
 
 impl Ranked for NameRow {

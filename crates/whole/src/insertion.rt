@@ -8,7 +8,7 @@ use table::keyed::Keyed;
 use table::search::Table;
 
 // Inserts a row at its place among the filled rows, and says how many are filled then. None where its key stands already.
-pub(crate) fn insert<'k, T: Keyed<'k>>(
+pub(crate) fn insert<'k, T: Keyed<'k> + Copy>(
     image: &'k [u8],
     rows: &mut [T],
     filled: usize,
@@ -22,7 +22,7 @@ pub(crate) fn insert<'k, T: Keyed<'k>>(
         image,
         rows: &rows[..filled],
     };
-    let place = before.search(row.key(image)).err()?;
+    let place = before.search_back(row.key(image)).err()?;
     rows[filled] = row;
     let more = filled + 1;
     rows[place..more].rotate_right(1);

@@ -1,5 +1,5 @@
 // What an order tells.
-ghost use Rattle.std.specs.Prelude.{◌≡◌};
+ghost use Rattle.std.specs.Prelude.{◌≡◌, ◌≤◌, length};
 
 use crate::invocation::Invocation;
 use crate::source::ValueRow;
@@ -14,7 +14,8 @@ impl Invocation {
 
     // Its values, in sequence.
     pub fn values(&self) -> &[ValueRow]
-        ensures { result.now ≡ self.now.values.rows.items }
+        ensures value { result.now ≡ self.now.values.rows.items }
+        ensures few { length result.now ≤ 1024 }
     {
         self.values.rows()
     }

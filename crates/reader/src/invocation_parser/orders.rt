@@ -1,10 +1,10 @@
 // The orders of a line, one after the other.
-ghost use Rattle.std.specs.Prelude.{◌≡◌, ◌<◌, ◌≤◌, false, length};
+ghost use Rattle.std.specs.Prelude.{◌≡◌, ◌<◌, ◌≤◌, false, List, length};
 ghost use Rattle.refusal.specs.declared.Refusal.{Refusal as Fault};
 ghost use Rattle.text.specs.Line.{closed};
 ghost use Rattle.text.specs.Lines.{bytes_of, words_of};
 ghost use Rattle.text.specs.Spans.{texts_at};
-ghost use Rattle.reader.specs.Told.{Begun};
+ghost use Rattle.reader.specs.Told.{ToldOrder, Begun, ToldSince};
 ghost use Rattle.reader.specs.Rest.{NextTold, AllTold, LineTold, EachTold};
 
 use crate::invocation_parser::InvocationParser;
@@ -33,8 +33,8 @@ impl InvocationParser {
         requires start { first ≤ length words.now }
         requires early { first < 128 }
         requires begun { Begun (T.Taker.told taker.old) bytes.now words.now first }
-        ensures next { NextTold (R.Register.names register.now) (R.Register.signatures register.now) (J.Judge.accepts judge.now) T.Taker.refuses (T.Taker.told taker.old) (T.Taker.told taker.new) bytes.now words.now first result }
-        ensures since { (before : T) → T.Taker.since before taker.old → T.Taker.since before taker.new }
+        ensures next { (before : T) → NextTold (R.Register.names register.now) (R.Register.signatures register.now) (J.Judge.accepts judge.now) T.Taker.refuses (ToldSince T.Taker.told T.Taker.since before taker.old) (ToldSince T.Taker.told T.Taker.since before taker.new) bytes.now words.now first result }
+        ensures since { (before : T) (os : List ToldOrder) → T.Taker.since before taker.old os → (now : List ToldOrder) × T.Taker.since before taker.new now }
     {
         let path = self
             .parse_invocation(register, judge, bytes, &words[first..])
@@ -63,8 +63,8 @@ impl InvocationParser {
         requires size { length bytes.now ≤ 1024 }
         requires room { length (closed (texts_at bytes.now words.now)) ≤ 1024 }
         requires few { length words.now ≤ 128 }
-        ensures since { T.Taker.since taker.old taker.new }
-        ensures all { AllTold (R.Register.names register.now) (R.Register.signatures register.now) (J.Judge.accepts judge.now) T.Taker.refuses (T.Taker.told taker.new) bytes.now (texts_at bytes.now words.now) result }
+        ensures since { (os : List ToldOrder) × T.Taker.since taker.old taker.new os }
+        ensures all { AllTold (R.Register.names register.now) (R.Register.signatures register.now) (J.Judge.accepts judge.now) T.Taker.refuses (ToldSince T.Taker.told T.Taker.since taker.old taker.new) bytes.now (texts_at bytes.now words.now) result }
     {
         taker.start(bytes);
         // Kept: the place of the next order's word, since each order tells by itself how many words it takes.
@@ -84,8 +84,8 @@ impl InvocationParser {
         taker: &mut T,
     ) -> Result<(), Refusal>
         ensures line { LineTold (R.Register.names register.now) (R.Register.signatures register.now) (J.Judge.accepts judge.now) T.Taker.refuses (T.Taker.told taker.new) (bytes_of line.now) (words_of line.now) result }
-        ensures since { T.Taker.since taker.old taker.new }
-        ensures each { ((f : Fault) → T.Taker.refuses f ≡ false) → EachTold (R.Register.names register.now) (R.Register.signatures register.now) (J.Judge.accepts judge.now) (T.Taker.told taker.new) (bytes_of line.now) (words_of line.now) result }
+        ensures since { (os : List ToldOrder) × T.Taker.since taker.old taker.new os }
+        ensures each { ((f : Fault) → T.Taker.refuses f ≡ false) → EachTold (R.Register.names register.now) (R.Register.signatures register.now) (J.Judge.accepts judge.now) (ToldSince T.Taker.told T.Taker.since taker.old taker.new) (bytes_of line.now) (words_of line.now) result }
     {
         let bytes = line.bytes();
         let words = line.words();

@@ -1,4 +1,5 @@
 // The call that makes a slip.
+ghost use Rattle.std.specs.Prelude.{◌≡◌, ◌+◌, min};
 ghost use Rattle.console.specs.Keeps.{kept};
 ghost use Rattle.console.specs.History.{Event};
 ghost use Rattle.console.specs.State.{Adds, Leaves};
@@ -7,6 +8,13 @@ use crate::console::Console;
 use crate::console::slip::Slip;
 use crate::issued::Issued;
 use refusal::Refusal;
+
+// One more, and at most 255.
+fn one_more(count: u8) -> u8
+    ensures { result ≡ min 255 (count + 1) }
+{
+    count.saturating_add(1)
+}
 
 impl Console {
     // Sends the first order that waits.
@@ -21,7 +29,7 @@ impl Console {
             return Err(Refusal::NoneWaiting);
         }
         let issued = self.next_issued();
-        self.shown[self.at] = issued.earlier.saturating_add(1);
+        self.shown[self.at] = one_more(issued.earlier);
         self.out = true;
         let slip = Slip::new(self.number, issued.serial);
         Ok((slip, issued))

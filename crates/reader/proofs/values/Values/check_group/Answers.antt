@@ -14,15 +14,15 @@ returns-then-parameter g c = λ m e. unchecked (g.J.Judge.accepts c.args.judge.n
 
 pub returns-then-not-at_least : goal.returns-then-not-at_least
 returns-then-not-at_least g c = λ m e. too_few (g.J.Judge.accepts c.args.judge.now) c.args.bytes.now c.args.self.now.rows.items c.args.called.place m c.args.called.parameter e
-    (and_from _ _ (ap not c.if-parameter.false) (sym c.has.ensures ∙ c.if-not-has.false)) c.count_to-found.result (c.count_to-found.ensures ∙ ap (count_to c.args.called.place) c.rows.ensures)
+    (and_from _ _ (ap not c.if-parameter.false) (sym c.has.ensures ∙ c.if-not-has.false)) c.count_to-found.result (c.count_to-found.ensures ∙ ap (count_to c.args.called.place) c.rows.ensures.value)
     (sym c.at_least.ensures ∙ c.if-not-at_least.true)
 
 pub returns-then-not-at_most : goal.returns-then-not-at_most
 returns-then-not-at_most g c = λ m e. too_many (g.J.Judge.accepts c.args.judge.now) c.args.bytes.now c.args.self.now.rows.items c.args.called.place m c.args.called.parameter e
-    (and_from _ _ (ap not c.if-parameter.false) (sym c.has.ensures ∙ c.if-not-has.false)) c.count_to-found.result (c.count_to-found.ensures ∙ ap (count_to c.args.called.place) c.rows.ensures)
+    (and_from _ _ (ap not c.if-parameter.false) (sym c.has.ensures ∙ c.if-not-has.false)) c.count_to-found.result (c.count_to-found.ensures ∙ ap (count_to c.args.called.place) c.rows.ensures.value)
     (sym c.at_least.ensures ∙ c.if-not-at_least.false) (sym c.at_most.ensures ∙ c.if-not-at_most.true)
 
 pub returns : goal.returns
 returns g c = λ m e. pattern_left (g.J.Judge.accepts c.args.judge.now) c.args.bytes.now c.args.self.now.rows.items c.args.called.place m c.args.called.parameter e
-    (and_from _ _ (ap not c.if-parameter.false) (sym c.has.ensures ∙ c.if-not-has.false)) c.count_to-found.result (c.count_to-found.ensures ∙ ap (count_to c.args.called.place) c.rows.ensures)
+    (and_from _ _ (ap not c.if-parameter.false) (sym c.has.ensures ∙ c.if-not-has.false)) c.count_to-found.result (c.count_to-found.ensures ∙ ap (count_to c.args.called.place) c.rows.ensures.value)
     (sym c.at_least.ensures ∙ c.if-not-at_least.false) (sym c.at_most.ensures ∙ c.if-not-at_most.false) _ c.check_pattern.ensures

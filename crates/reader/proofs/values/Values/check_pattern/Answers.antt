@@ -15,11 +15,11 @@ returns-in_default g c =
 pub returns-in-Some-first_rejected : goal.returns-in-Some-first_rejected
 returns-in-Some-first_rejected g c =
     let accepts = g.J.Judge.accepts c.args.judge.now in let vs = group c.args.place (values_of c.args.bytes.now c.args.self.now) in
-    let e = c.in-Some-first_rejected.ensures ∙ ap (λ (rows : List ValueRow). first_rejected (accepts c.in-Some.pattern) c.args.bytes.now c.args.place rows) c.rows.ensures in
+    let e = c.in-Some-first_rejected.ensures ∙ ap (λ (rows : List ValueRow). first_rejected (accepts c.in-Some.pattern) c.args.bytes.now c.args.place rows) c.rows.ensures.value in
     ap (mismatch c.args.place) e ∙ pattern_is accepts c.in-Some.pattern c.args.bytes.now c.args.place c.args.self.now.rows.items ∙ sym (ap (λ o. check_pattern accepts c.args.place o vs) c.in-Some.is)
 
 pub returns-in-None : goal.returns-in-None
 returns-in-None g c =
     let accepts = g.J.Judge.accepts c.args.judge.now in let vs = group c.args.place (values_of c.args.bytes.now c.args.self.now) in
-    let e = c.in-None.ensures ∙ ap (λ (rows : List ValueRow). first_rejected (accepts c.in-Some.pattern) c.args.bytes.now c.args.place rows) c.rows.ensures in
+    let e = c.in-None.ensures ∙ ap (λ (rows : List ValueRow). first_rejected (accepts c.in-Some.pattern) c.args.bytes.now c.args.place rows) c.rows.ensures.value in
     ap (mismatch c.args.place) e ∙ pattern_is accepts c.in-Some.pattern c.args.bytes.now c.args.place c.args.self.now.rows.items ∙ sym (ap (λ o. check_pattern accepts c.args.place o vs) c.in-Some.is)

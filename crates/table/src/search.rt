@@ -36,7 +36,7 @@ impl<'k, 'r, K: Parts, T: Keyed<'k, Key = K>> Table<'k, 'r, T> {
     }
 
     // The place of the row with the key, or else the place where such a row would stand.
-    // Kept: a loop by hand, since the library's binary search goes on where it has met the key, and looks at one row more; a look-up takes a third longer by it.
+    // Kept: a loop by hand, since the library's binary search goes on where it has met the key, and looks at one row more.
     pub fn search(&self, key: K) -> Result<usize, usize>
         ensures { Searched (T.keyed self.now.image.now) self.now.rows.now (K.parts key) result }
     {

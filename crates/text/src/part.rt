@@ -9,8 +9,9 @@ pub fn front<T>(rows: &[T], len: usize) -> &[T]
 }
 
 // So many rows from a place on, or as many as there are.
+// The place is cut to the length once, since `get(start..)` with its default compares the two three times, and each look-up of a name pays that.
 pub fn part<T>(rows: &[T], start: usize, len: usize) -> &[T]
     ensures { result.now ≡ take len (drop start rows.now) }
 {
-    front(rows.get(start..).unwrap_or_default(), len)
+    front(&rows[start.min(rows.len())..], len)
 }

@@ -40,10 +40,10 @@ impl<'k> Parts for NameKey<'k> {
 
     ghost in_order = { λ a b. ap (λ o. ordering_then (nat_cmp a.«module» b.«module») (ordering_then o (slice_cmp nat_cmp a.text.now b.text.now))) (kinds_in_order a.kind b.kind) };
 
-    // Kept: by hand, here and below, since the derived order looks at all parts of both keys, which makes a look-up half as long again.
+    // Kept: by hand, here and below, since the derived order looks at all parts of both keys; and kinds by their numbers, since the derived order of kinds reads each number from a table.
     fn compare(&self, other: &NameKey<'k>) -> Ordering {
         match self.module.cmp(&other.module) {
-            Ordering::Equal => match self.kind.cmp(&other.kind) {
+            Ordering::Equal => match u8::from(self.kind).cmp(&u8::from(other.kind)) {
                 Ordering::Equal => self.text.cmp(&other.text),
                 apart => apart,
             },

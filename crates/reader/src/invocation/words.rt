@@ -1,6 +1,7 @@
 // One word of an order.
 ghost use Rattle.std.specs.Prelude.{◌≡◌, ℕ, suc, ◌+◌, ◌<◌, ◌≤◌, true, List, [], length, Some, None, Ok, Err};
 ghost use Rattle.text.specs.Spans.{text_at};
+ghost use Rattle.reading.specs.Signature.{any_option};
 ghost use Rattle.reading.specs.Switches.{is_dashed, Called as CalledParameter};
 ghost use Rattle.reading.specs.Model.{started, step as step_of, free_step, value_step, plain_step, switch_step, end_step, taker};
 ghost use Rattle.reading.specs.declared.role.Role.{Role as WordRole};
@@ -141,14 +142,16 @@ impl Invocation {
     fn free_word<R: Register>(
         &mut self,
         signature: &Signature<'_, R>,
+        options: bool,
         bytes: &[u8],
         span: Span,
     ) -> Result<Option<Role>, Refusal>
-        requires { MayGrow (suc (length (text_at bytes.now span))) self.old }
+        requires options { options ≡ any_option (parameters_of R.Register.signatures signature.now) }
+        requires room { MayGrow (suc (length (text_at bytes.now span))) self.old }
         ensures next { (roles : List WordRole) → next_of (parameters_of R.Register.signatures signature.now) bytes.now roles result self.new ≡ free_step (parameters_of R.Register.signatures signature.now) (state_of (parameters_of R.Register.signatures signature.now) bytes.now self.old roles) (text_at bytes.now span) }
         ensures grows { Grows (suc (length (text_at bytes.now span))) self.old self.new result }
     {
-        if self.ended || !signature.has_options() {
+        if self.ended || !options {
             return self.plain_word(signature, span);
         }
         let text = text_at(bytes, span);
@@ -161,20 +164,22 @@ impl Invocation {
         self.plain_word(signature, span)
     }
 
-    // The next word: its role, or none if the order ends before it.
+    // The next word: its role, or none if the order ends before it. Whether the recipe has options is told, since it is the same for all words of an order.
     pub(crate) fn read_word<R: Register>(
         &mut self,
         signature: &Signature<'_, R>,
+        options: bool,
         bytes: &[u8],
         span: Span,
     ) -> Result<Option<Role>, Refusal>
-        requires { MayGrow (suc (length (text_at bytes.now span))) self.old }
+        requires options { options ≡ any_option (parameters_of R.Register.signatures signature.now) }
+        requires room { MayGrow (suc (length (text_at bytes.now span))) self.old }
         ensures next { (roles : List WordRole) → next_of (parameters_of R.Register.signatures signature.now) bytes.now roles result self.new ≡ step_of (parameters_of R.Register.signatures signature.now) (state_of (parameters_of R.Register.signatures signature.now) bytes.now self.old roles) (text_at bytes.now span) }
         ensures grows { Grows (suc (length (text_at bytes.now span))) self.old self.new result }
     {
         match self.awaited(signature) {
             Some(awaited) => self.value_word(span, awaited),
-            None => self.free_word(signature, bytes, span),
+            None => self.free_word(signature, options, bytes, span),
         }
     }
 }

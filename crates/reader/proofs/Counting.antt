@@ -9,7 +9,7 @@ use Rattle.register.specs.declared.parameter.Parameter.{Parameter}
 use Rattle.judge.specs.Meaning.{JudgeMeaning}
 use Rattle.reading.specs.Signature.{is_option}
 use Rattle.reading.specs.Reading.{Value, group, filled, is_missing, is_checked, at_least, at_most}
-use Rattle.reading.specs.Model.{else!, first_of, check_option, check_pattern, check_sound, any_missing}
+use Rattle.reading.specs.Model.{else!, first_of, check_option, check_pattern, check_group, check_sound, any_missing}
 use Rattle.reader.specs.Bare.{bare_option, bare_may_be_empty}
 use Rattle.reader.specs.Meaning.{source_text, value_of, any_to}
 use Rattle.reader.specs.Counts.{count_to, first_rejected, missing_row}
@@ -89,6 +89,14 @@ any_missing_is bytes rows k (p ∷ ps) =
 pub first_none : (check : ℕ → ParameterMeaning → Option Refusal) (k : ℕ) (ps : List ParameterMeaning) → called_from k ps ≡ [] → None ≡ first_of check k ps
 first_none check k [] e = refl
 first_none check k (p ∷ ps) e = absurd (let z : ◌≡◌ {A = ℕ} 0 1 = cc in omega arith)
+
+-- without values no parameter has any to check
+pub none_to_check : (judge : JudgeMeaning) (bytes : List ℕ) (rows : List ValueRow) (k : ℕ) (ps : List ParameterMeaning) → rows ≡ [] → None ≡ first_of (check_sound judge (map (value_of bytes) rows)) k ps
+none_to_check judge bytes rows k ps e = by k ps ∙ ap (λ (vs : List ValueRow). first_of (check_sound judge (map (value_of bytes) vs)) k ps) (sym e)
+  where
+    by : (k : ℕ) (ps : List ParameterMeaning) → None ≡ first_of (check_sound judge []) k ps
+    by k [] = refl
+    by k (p ∷ ps) = elim p.value as (λ b. None ≡ else! (cond (not b && false) (check_group judge k p []) None) (first_of (check_sound judge []) (suc k) ps)) [ true ↦ by (suc k) ps | false ↦ by (suc k) ps ]
 
 module _ (check : ℕ → ParameterMeaning → Option Refusal) (k : ℕ) (ps : List ParameterMeaning) (c : code.Called) (cs : List code.Called) (t : Ahead k ps c cs) where
   here : first_of check k ps ≡ else! (check c.place t.meaning) (first_of check (suc k) t.others)

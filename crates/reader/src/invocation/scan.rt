@@ -31,7 +31,7 @@ impl Invocation {
         ensures scans { scanned_of (parameters_of R.Register.signatures signature.now) bytes.now words.now result self.new roles.new ≡ scan (parameters_of R.Register.signatures signature.now) (state_of (parameters_of R.Register.signatures signature.now) bytes.now self.old roles.old.items) (texts_at bytes.now words.now) }
         ensures takes { IfOk result (λ taken. (taken ≤ length words.now) × (self.new.words ≡ self.old.words + taken)) }
     {
-        let options = signature.has_options();
+        let options = !words.is_empty() && signature.has_options();
         for (i, span) in words.iter().enumerate() {
             let Some(role) = self.read_word(signature, options, bytes, *span)? else {
                 return Ok(i);

@@ -1,12 +1,18 @@
-use Rattle.std.proofs.Common.{suc, Err, sym, ap, ◌∙◌}
+use Rattle.std.proofs.Common.{suc, length, Err, sym, ap, ◌∙◌}
+use Rattle.std.proofs.lemmas.Bool.{eqb-true}
+use Rattle.std.proofs.lemmas.List.{nil_from_length}
 use Rattle.std.proofs.lemmas.Result.{err_from_is_err_and}
 use Rattle.reading.specs.Model.{check_sound}
 use Rattle.reader.specs.Meaning.{values_of}
-use Rattle.reader.specs.Signatures.{left_of}
+use Rattle.reader.specs.Signatures.{parameters_of, left_of}
 use Rattle.reader.specs.Counts.{fault_of}
 use Rattle.reader.proofs.Places.{ahead}
-use Rattle.reader.proofs.Counting.{first_pass, first_hit, first_none}
+use Rattle.reader.proofs.Counting.{first_pass, first_hit, first_none, none_to_check}
 use Rattle.reader.proofs.values.Values.check_values.Goals as goal
+
+pub returns-then-is_empty : goal.returns-then-is_empty
+returns-then-is_empty g c =
+    none_to_check (g.J.Judge.accepts c.args.judge.now) c.args.bytes.now c.args.self.now.rows.items 0 (parameters_of g.R.Register.signatures c.args.signature.now) (sym c.rows.ensures.value ∙ nil_from_length c.rows.result.now (eqb-true (length c.rows.result.now) 0 (sym c.is_empty.ensures ∙ c.if-is_empty.true)))
 
 pub loop-called-preserved : goal.loop-called-preserved
 loop-called-preserved g c =
